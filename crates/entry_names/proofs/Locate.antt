@@ -1,9 +1,9 @@
 -- The entry of a name, by its place.
 use Rattle.std.proofs.Common.{◌≡◌, ◌∙◌, ℕ, zero, suc, ◌<◌, ◌==◌, Bool, true, false, not, ◌||◌, cond, List, [], ◌∷◌, length, map}
 use Rattle.std.proofs.Common.{Option, Some, None, refl, sym, ap, arith}
-use Rattle.std.specs.Prelude.{slice_get, is_some}
+use Rattle.std.specs.Prelude.{slice_get, option_map, is_some, IsSomeAnd}
 use Rattle.std.specs.List.{find, list_any}
-use Rattle.std.proofs.lemmas.Bool.{eqb-true}
+use Rattle.std.proofs.lemmas.Bool.{eqb-true, not-false}
 use Rattle.std.proofs.lemmas.List.{length-map}
 use Rattle.std.proofs.lemmas.Option.{none-some, same_Some, slice_get_within}
 use Rattle.sequence.proofs.Lists.{heads, tails, map_map}
@@ -60,7 +60,7 @@ module _ {E : Type 0} (number : E → Option ℕ) (id : ℕ) where
 -- ---- the entry of a name
 
 -- the slot of a name
-slot_is : {names : List Name} {entries : List Subject} {places : List (Option ℕ)} (l : AreLocated names entries places) (id : ℕ)
+pub slot_is : {names : List Name} {entries : List Subject} {places : List (Option ℕ)} (l : AreLocated names entries places) (id : ℕ)
     (slot : Option ℕ) → id < length names → slice_get places id ≡ Some slot → IsPlace l.numbers id slot
 slot_is l id slot within there =
     let found = l.placed.each id within in
@@ -113,6 +113,14 @@ module _ (names : List Name) (id : ℕ) where
         by (Some p) k = sym (among_at l.numbers p id k)
         by None k = sym k
 
+  -- a name that has an entry has a place
+  pub has_place : (entries : List Subject) (places : List (Option ℕ)) → AreLocated names entries places → id < length names →
+      has_no_entry names entries id ≡ false → IsSomeAnd (slice_get places id) (λ slot. is_some slot ≡ true)
+  has_place entries places l within h =
+      let found = l.placed.each id within in
+      let none = no_entry entries places found.0 (not (is_some found.0)) l within found.1 (sym (not_not (is_some found.0))) in
+      rw found.1 (not-false (is_some found.0) (none ∙ h))
+
   -- where a name has an entry, it is found
   pub found_entry : {E : Type 0} (subject : E → Subject) (es : List E) → has_no_entry names (map subject es) id ≡ false →
       (e : E) × (find (λ d. is_for names id (subject d).name) es ≡ Some e)
@@ -126,3 +134,25 @@ module _ (names : List Name) (id : ℕ) where
     by false e further k =
         let rest = further (sym (ap (λ b. not (b || list_any (λ d. is_for names id d.name) (map subject es))) e) ∙ k) in
         (rest.0, ap (λ b. cond b (Some x) (find (λ d. is_for names id (subject d).name) es)) e ∙ rest.1)
+
+-- ---- entries in memory
+
+pub subjects_are : {U V : Type 0} (subject : V → Subject) (view : U → V) (lent es : List U) → lent ≡ es →
+    map (λ e. subject (view e)) lent ≡ map subject (map view es)
+subjects_are subject view lent es same = sym (map_map subject view lent) ∙ ap (λ xs. map subject (map view xs)) same
+
+-- the first one of the images
+pub found_view : {X Y : Type 0} (view : X → Y) (test : Y → Bool) (xs : List X) →
+    find test (map view xs) ≡ option_map view (find (λ x. test (view x)) xs)
+found_view view test [] = refl
+found_view view test (x ∷ xs) = by (test (view x)) (found_view view test xs) where
+  by : (b : Bool) → find test (map view xs) ≡ option_map view (find (λ y. test (view y)) xs) →
+      cond b (Some (view x)) (find test (map view xs)) ≡ option_map view (cond b (Some x) (find (λ y. test (view y)) xs))
+  by true h = refl
+  by false h = h
+
+-- what is seen of it
+pub seen_entry : {U V W : Type 0} (view : U → V) (test : V → Bool) (what : V → W) (xs : List U) (o : Option U) →
+    o ≡ find (λ x. test (view x)) xs →
+    option_map what (option_map view o) ≡ option_map what (find test (map view xs))
+seen_entry view test what xs o is = ap (option_map what) (ap (option_map view) is ∙ sym (found_view view test xs))

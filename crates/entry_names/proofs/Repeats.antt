@@ -1,20 +1,19 @@
 -- Numbers that stand twice, among numbers and among options.
-use Rattle.std.proofs.Common.{◌≡◌, ◌∙◌, ℕ, List, map, Option, Some, None, refl, sym, ap, arith, ⊎_elim}
+use Rattle.std.proofs.Common.{◌≡◌, ◌∙◌, ℕ, List, map, Option, Some, sym, ap, arith, ⊎_elim}
 use Rattle.std.proofs.lemmas.Bool.{cases_lt}
 use Rattle.std.specs.Prelude.{option_map, slice_get}
-use Rattle.std.proofs.lemmas.Option.{none-some, same_Some, slice_get-map}
+use Rattle.std.proofs.lemmas.Option.{same_Some, slice_get-map}
+use Rattle.sequence.proofs.Options.{some_mapped}
 use Rattle.entry_names.specs.Needed.{IsRepeat, IsFirstRepeat, HasNoRepeat}
-
-got_some : (o : Option ℕ) (m : Option ℕ) → option_map (λ (n : ℕ). Some n) o ≡ Some m → (n : ℕ) × (o ≡ Some n) × (m ≡ Some n)
-got_some (Some n) m e = (n, refl, sym (same_Some (Some n) m e))
-got_some None m e = absurd (none-some m e)
 
 slice_some : (ns : List ℕ) (k n : ℕ) → slice_get ns k ≡ Some n → slice_get (map (λ (n : ℕ). Some n) ns) k ≡ Some (Some n)
 slice_some ns k n h = slice_get-map (λ n. Some n) ns k ∙ ap (option_map (λ n. Some n)) h
 
 some_slice : (ns : List ℕ) (k : ℕ) (m : Option ℕ) → slice_get (map (λ (n : ℕ). Some n) ns) k ≡ Some m →
     (n : ℕ) × (slice_get ns k ≡ Some n) × (m ≡ Some n)
-some_slice ns k m h = got_some (slice_get ns k) m (sym (slice_get-map (λ n. Some n) ns k) ∙ h)
+some_slice ns k m h =
+    let n = some_mapped (λ (n : ℕ). Some n) (slice_get ns k) m (sym (slice_get-map (λ n. Some n) ns k) ∙ h) in
+    (n.0, n.1, sym n.2)
 
 repeat_of_some : (ns : List ℕ) (at : ℕ) → IsRepeat (map (λ (n : ℕ). Some n) ns) at → IsRepeat ns at
 repeat_of_some ns at r =

@@ -5,6 +5,7 @@ use Rattle.std.specs.List.{find, list_any}
 use Rattle.sequence.specs.Numbers.{is_among}
 use Rattle.sequence.specs.Options.{passes}
 use Rattle.tsl_terms.specs.declared.names.NameKind.{NameKind}
+use Rattle.tsl_terms.specs.declared.names.NameKind.TheVariants.{Signal}
 use Rattle.tsl_terms.specs.Name.{Name, same_kind}
 use Rattle.table_syntax.specs.Syntax.{TextToken, Entry, WordEntry, kind_of}
 use Rattle.entry_names.specs.declared.locating.EntryFault.{EntryFault}
@@ -22,6 +23,10 @@ subject_of e = record { kind = e.kind; name = e.name }
 
 abbrev pub word_subject_of : WordEntry → Subject
 word_subject_of e = record { kind = kind_of e.given; name = e.name }
+
+-- the column of an input is for a cell
+abbrev pub column_subject_of : TextToken → Subject
+column_subject_of x = record { kind = Signal; name = x }
 
 -- whether the name with this number has this kind, and is needed
 abbrev pub is_needed_as : List Name → List ℕ → NameKind → ℕ → Bool

@@ -1,11 +1,11 @@
 //! The place of the entry for each name.
 
-ghost use Rattle.std.specs.Prelude.{◌≡◌, ◌<◌, Some, is_some, length, map, slice_get, All, IfOk, IfErr, IfSome, IsSomeAnd};
+ghost use Rattle.std.specs.Prelude.{◌≡◌, ◌<◌, Some, is_some, option_map, length, map, slice_get, All, IfOk, IfErr, IfSome, IsSomeAnd};
 ghost use Rattle.std.specs.List.{find};
 ghost use Rattle.tsl_terms.specs.Name.{same_kind};
 ghost use Rattle.sequence.specs.Options.{passes};
 ghost use Rattle.table_syntax.specs.View.{text_token_view};
-ghost use Rattle.entry_names.specs.Needed.{number_for};
+ghost use Rattle.entry_names.specs.Needed.{number_for, is_for};
 ghost use Rattle.entry_names.specs.Places.{AreMarksOf};
 ghost use Rattle.entry_names.specs.Entries.{is_needed_as, numbers_of, has_no_entry, AreKnown, AreOnce, AreWhole, HasEntryFault, AreLocated};
 
@@ -200,4 +200,21 @@ pub fn entry_places<E: Named>(
         return Err(EntryFault::Missing(id));
     }
     Ok(places)
+}
+
+/// The entry for a name, by the places of the entries.
+pub fn entry_for<'b, E: Named>(
+    names: &Names,
+    entries: &'b [E],
+    places: &[Option<usize>],
+    id: u32,
+) -> Option<&'b E>
+    requires located { AreLocated names.now (map E.subject entries.now) places.now }
+    requires within { id < length names.now }
+    ensures { option_map (λ e. e.now) result ≡ find (λ e. is_for names.now id (E.subject e).name) entries.now }
+{
+    match place_of(places, id) {
+        None => None,
+        Some(place) => Some(&entries[place]),
+    }
 }

@@ -2,7 +2,7 @@
 
 ghost use Rattle.std.specs.Prelude.{◌≡◌};
 ghost use Rattle.table_syntax.specs.View.{text_token_view, entry_view, word_entry_view};
-ghost use Rattle.entry_names.specs.Entries.{Subject, subject_of, word_subject_of};
+ghost use Rattle.entry_names.specs.Entries.{Subject, subject_of, word_subject_of, column_subject_of};
 
 use table_syntax::{Entry, Given, TextToken, WordEntry};
 use tsl_terms::NameKind;
@@ -46,5 +46,17 @@ impl<'a> Named for WordEntry<'a> {
 
     fn name(&self) -> TextToken {
         self.name
+    }
+}
+
+impl<'a> Named for TextToken<'a> {
+    ghost subject = { λ x. column_subject_of (text_token_view x) };
+
+    fn kind(&self) -> NameKind {
+        NameKind::Signal
+    }
+
+    fn name(&self) -> TextToken {
+        *self
     }
 }

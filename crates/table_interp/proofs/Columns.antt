@@ -1,324 +1,145 @@
--- Columns by their places, and the first row that passes a test.
-use Rattle.std.proofs.Common.{◌≡◌, ◌∙◌, ℕ, zero, suc, ◌+◌, ◌<◌, ◌≤◌, ◌==◌, ◌^◌, Bool, true, false, not, cond, List, [], ◌∷◌, ◌++◌, length, map, take, drop, get_or}
-use Rattle.std.proofs.Common.{Vec, Option, Some, None, refl, sym, ap, subst, arith, inl, inr}
-use Rattle.std.specs.Prelude.{slice_get, option_map, is_some, All, IsSomeAnd, ◌⊎◌}
-use Rattle.std.proofs.lemmas.List.Elements.{All-from_recursion, recursion_from_All}
-use Rattle.sequence.proofs.Finds.{find_image_end, find_item_past, each_fails, find_neither}
-use Rattle.sequence.proofs.Options.{none_is}
-use Rattle.tsl_terms.specs.Value.{beside}
-use Rattle.sequence.specs.Options.{all_there}
-use Rattle.table_interp.specs.Inputs.{by_inputs, is_no_value}
-use Rattle.std.specs.List.{find, list_any, AllByRecursion}
-use Rattle.std.specs.declared.alloc.Global.{Global}
-use Rattle.std.proofs.lemmas.Bool.{cases_lt, eqb-true}
-use Rattle.std.proofs.lemmas.List.{length-map, map-append, take_more}
-use Rattle.sequence.proofs.Each.{each_at}
-use Rattle.std.proofs.lemmas.Option.{none-some, same_Some, slice_get-get_or, slice_get-map, slice_get_within}
+-- The columns of a text as entries for cells: what their places and faults say of the inputs.
+use Rattle.std.proofs.Common.{◌≡◌, ◌∙◌, ℕ, ◌<◌, ◌==◌, Bool, true, false, not, ◌&&◌, ◌||◌, List, [], ◌∷◌, length, map, Option, Some, None}
+use Rattle.std.proofs.Common.{refl, sym, ap, subst, IsTrue}
+use Rattle.std.specs.Prelude.{slice_get, option_map, is_some, IsSomeAnd}
+use Rattle.std.specs.Option.{option_map_or}
+use Rattle.std.specs.List.{find, list_all, list_any, AllByRecursion}
+use Rattle.std.proofs.lemmas.Bool.{and_parts}
+use Rattle.std.proofs.lemmas.Option.{slice_get-map, slice_get_within}
+use Rattle.std.proofs.lemmas.List.Elements.{All-from_recursion}
 use Rattle.sequence.specs.Numbers.{is_among}
-use Rattle.sequence.proofs.Booleans.{not_not, eqb_self}
-use Rattle.sequence.proofs.Numbers.{among_at}
-use Rattle.tsl_text.specs.declared.Token.{Token}
-use Rattle.tsl_terms.specs.Name.{Name}
-use Rattle.table_syntax.specs.declared.text_tokens.TextToken.{TextToken as LentToken}
+use Rattle.sequence.specs.Options.{passes}
+use Rattle.sequence.proofs.Each.{each_both}
+use Rattle.sequence.proofs.Finds.{each_fails}
+use Rattle.sequence.proofs.Lists.{map_map}
+use Rattle.sequence.proofs.Options.{some_mapped, none_mapped}
+use Rattle.sequence.proofs.Numbers.{among_place}
+use Rattle.sequence.proofs.Passes.{passes_at}
+use Rattle.tsl_terms.specs.declared.names.NameKind.TheVariants.{Signal}
+use Rattle.tsl_terms.specs.Name.{Name, is_name, same_kind}
 use Rattle.table_syntax.specs.Syntax.{TextToken, InputsSyntax}
+use Rattle.entry_names.specs.declared.locating.EntryFault.{EntryFault}
+use Rattle.entry_names.specs.declared.locating.EntryFault.TheVariants as entry
 use Rattle.entry_names.specs.Needed.{number_for, is_for, IsFirstRepeat, HasNoRepeat}
-use Rattle.table_interp.specs.Inputs.{IsFirstAt}
-use Rattle.sequence.proofs.Places.{slice_get-front}
-use Rattle.table_interp.specs.Inputs.{is_input_name, AreOnce, HasSecondColumn}
-use Rattle.entry_names.specs.Places.{IsPlace}
-use Rattle.table_interp.specs.internal.Ordered.{HasColumns}
-use Rattle.table_syntax.specs.View.{text_token_view, text_tokens_view, numbers_view}
-use Rattle.table_interp.proofs.Facts.{below_each}
-use Rattle.entry_names.proofs.Repeats.{once_some, first_some}
+use Rattle.entry_names.specs.Entries.{Subject, column_subject_of, is_needed_as, is_known, numbers_of, has_no_entry}
+use Rattle.entry_names.specs.Entries.{AreLocated, HasEntryFault}
+use Rattle.entry_names.specs.Entries.{AreKnown as AreKnownEntries, AreOnce as AreOnceEntries, AreWhole as AreWholeEntries}
+use Rattle.entry_names.proofs.Locate.{found_view, slot_is, has_place}
+use Rattle.table_interp.specs.Inputs.{is_input_name, has_no_column, AreKnown, AreOnce, AreWhole, HasRowCause}
+use Rattle.table_interp.specs.internal.Ordered.{columns_of, HavePlaces, AreOrdered}
+use Rattle.table_interp.specs.internal.Texts.{column_error}
 
-abbrev Row : Type 0
-Row = Vec ℕ Global
+list_any-map : {X Y : Type 0} (p : Y → Bool) (f : X → Y) (xs : List X) → list_any p (map f xs) ≡ list_any (λ x. p (f x)) xs
+list_any-map p f [] = refl
+list_any-map p f (x ∷ xs) = ap (λ b. p (f x) || b) (list_any-map p f xs)
 
-items_of : Row → List ℕ
-items_of r = r.items
+pub numbers_are : (names : List Name) (given : InputsSyntax) → numbers_of names (columns_of given) ≡ map (number_for names) given.names
+numbers_are names given = map_map (λ (e : Subject). number_for names e.name) column_subject_of given.names
 
--- none of the rows so far passes
-pub record NoneSoFar (test : List ℕ → Bool) (rows : List Row) (i : ℕ) : Type 0 where
-  pub first : find test (numbers_view rows) ≡ find test (numbers_view (drop i rows))
-  pub none : (k : ℕ) (x : List ℕ) → k < i → slice_get (numbers_view rows) k ≡ Some x → test x ≡ false
+module _ (names : List Name) (inputs : List ℕ) (are : IsTrue (list_all (λ s. is_name names s Signal 0) inputs)) (given : InputsSyntax) where
+  -- what is among the inputs is a signal
+  needed_as : (n : ℕ) → is_needed_as names inputs Signal n ≡ is_among inputs n
+  needed_as n = by (is_among inputs n) refl where
+    signal : (o : Option Name) → option_map_or (λ m. same_kind m.kind Signal && (m.arity == 0)) o false ≡ true →
+        passes (λ m. same_kind m.kind Signal) o ≡ true
+    signal None e = e
+    signal (Some m) e = (and_parts (same_kind m.kind Signal) (m.arity == 0) e).0
 
-there : (rows : List Row) (i : ℕ) (row : Row) → i < length rows → row ≡ get_or rows i row → slice_get (numbers_view rows) i ≡ Some row.items
-there rows i row within is =
-    slice_get-map (λ r. r.items) rows i
-    ∙ ap (option_map (λ r. r.items)) (slice_get-get_or rows i row within ∙ ap (λ r. Some r) (sym is))
+    never : (b : Bool) → (b && false) ≡ false
+    never true = refl
+    never false = refl
 
-pub none_at_first : (test : List ℕ → Bool) (rows : List Row) → NoneSoFar test rows 0
-none_at_first test rows = record { first = refl; none = λ k x less at. absurd (omega (arith, less)) }
+    by : (b : Bool) → is_among inputs n ≡ b → (passes (λ m. same_kind m.kind Signal) (slice_get names n) && b) ≡ b
+    by true e =
+        let place = among_place inputs n e in
+        ap (λ b. b && true) (signal (slice_get names n) (passes_at (λ s. is_name names s Signal 0) inputs place.0 n are place.1))
+    by false e = never (passes (λ m. same_kind m.kind Signal) (slice_get names n))
 
-pub none_more : (test : List ℕ → Bool) (rows : List Row) (i : ℕ) (row : Row) → i < length rows → row ≡ get_or rows i row →
-    test row.items ≡ false → NoneSoFar test rows i → NoneSoFar test rows (i + 1)
-none_more test rows i row within is fails h = record {
-  first = h.first ∙ find_item_past (λ r. r.items) test rows i row within is fails;
-  none = none;
-} where
-  none : (k : ℕ) (x : List ℕ) → k < i + 1 → slice_get (numbers_view rows) k ≡ Some x → test x ≡ false
-  none k x less at = by (cases_lt k i) where
-    by : (k < i) ⊎ (i ≤ k) → test x ≡ false
-    by (inl before) = h.none k x before at
-    by (inr after) =
-        let same : k ≡ i = omega (arith, less, after) in
-        let found : row.items ≡ x = same_Some row.items x (sym (there rows i row within is)
-        ∙ ap (slice_get (numbers_view rows)) (sym same) ∙ at) in
-        ap test (sym found) ∙ fails
+  known_as : (x : TextToken) → is_known names inputs (column_subject_of x) ≡ is_input_name names inputs x
+  known_as x = by (number_for names x) where
+    by : (o : Option ℕ) → passes (is_needed_as names inputs Signal) o ≡ passes (is_among inputs) o
+    by None = refl
+    by (Some n) = needed_as n
 
-pub none_left : (test : List ℕ → Bool) (rows : List Row) (i : ℕ) → length rows ≤ i → NoneSoFar test rows i →
-    find test (numbers_view rows) ≡ None
-none_left test rows i past h = h.first ∙ find_image_end (λ r. r.items) test rows i past
+  found_known : find (λ e. not (is_known names inputs e)) (columns_of given)
+      ≡ option_map column_subject_of (find (λ x. not (is_input_name names inputs x)) given.names)
+  found_known =
+      found_view column_subject_of (λ e. not (is_known names inputs e)) given.names
+      ∙ (λ i. option_map column_subject_of (find (λ x. not (known_as x i)) given.names))
 
-pub first_at : (test : List ℕ → Bool) (rows : List Row) (i : ℕ) (row : Row) → i < length rows → row ≡ get_or rows i row →
-    test row.items ≡ true → NoneSoFar test rows i → IsFirstAt test (numbers_view rows) i
-first_at test rows i row within is passed h =
-    record { member = row.items; there = there rows i row within is; passed = passed; none_before = h.none }
+  no_column : (id : ℕ) → has_no_entry names (columns_of given) id ≡ has_no_column names given id
+  no_column id = ap not (list_any-map (λ (e : Subject). is_for names id e.name) column_subject_of given.names)
 
--- ---- columns
+  known_columns : AreKnownEntries names inputs (columns_of given) → AreKnown names inputs given
+  known_columns h = none_mapped column_subject_of _ (sym found_known ∙ h)
 
-module _ (names : List Name) (inputs : List ℕ) (stem cycle : List (List ℕ)) where
-  abbrev given_of : List LentToken → InputsSyntax
-  given_of xs = record { names = text_tokens_view xs; stem = stem; cycle = cycle }
-
-  pub are_once : (lent xs : List LentToken) (ns ms : List ℕ) → lent ≡ xs → ns ≡ ms →
-      find (λ x. not (is_input_name names inputs x)) (text_tokens_view lent) ≡ None →
-      map (number_for names) (text_tokens_view lent) ≡ map (λ n. Some n) ms → HasNoRepeat ns → AreOnce names inputs (given_of xs)
-  are_once lent xs ns ms same alike known aligned once = record {
-    known = ap (λ ys. find (λ x. not (is_input_name names inputs x)) (text_tokens_view ys)) (sym same) ∙ known;
-    once =
-        once_some _ ms (ap (λ ys. map (number_for names) (text_tokens_view ys)) (sym same) ∙ aligned)
-        (subst (λ (ks : List ℕ). HasNoRepeat ks) alike once);
+  once_columns : AreOnceEntries names inputs (columns_of given) → AreOnce names inputs given
+  once_columns h = record {
+    known = known_columns h.known;
+    once = subst (λ (ns : List (Option ℕ)). HasNoRepeat ns) (numbers_are names given) h.once;
   }
 
-  pub second_column : (lent xs last : List LentToken) (ns ms : List ℕ) (token : Token) → lent ≡ xs → last ≡ xs → ns ≡ ms →
-      find (λ x. not (is_input_name names inputs x)) (text_tokens_view lent) ≡ None →
-      map (number_for names) (text_tokens_view lent) ≡ map (λ n. Some n) ms → (at : ℕ) → IsFirstRepeat ns at →
-      IsSomeAnd (slice_get (text_tokens_view last) at) (λ x. token ≡ x.token) →
-      HasSecondColumn names inputs (given_of xs) token.start token.end
-  second_column lent xs last ns ms token same other alike known aligned at first place =
-      by (slice_get (text_tokens_view xs) at) refl (subst (λ ys. IsSomeAnd (slice_get (text_tokens_view ys) at) (λ x. token ≡ x.token))
-      other place)
-    where
-      by : (o : Option TextToken) → slice_get (text_tokens_view xs) at ≡ o → IsSomeAnd o (λ x. token ≡ x.token) →
-          HasSecondColumn names inputs (given_of xs) token.start token.end
-      by None e h = absurd h
-      by (Some x) is h = record {
-        known = ap (λ ys. find (λ x. not (is_input_name names inputs x)) (text_tokens_view ys)) (sym same) ∙ known;
-        at = at;
-        first =
-            first_some _ ms at (ap (λ ys. map (number_for names) (text_tokens_view ys)) (sym same) ∙ aligned)
-            (subst (λ (ks : List ℕ). IsFirstRepeat ks at) alike first);
-        column = x;
-        there = is;
-        starts = ap (λ (t : Token). t.start) h;
-        ends = ap (λ (t : Token). t.end) h;
-      }
+  pub whole_columns : AreWholeEntries names inputs (columns_of given) → AreWhole names inputs given
+  whole_columns h = record {
+    so_far = once_columns h.so_far;
+    whole = sym (λ i. find (λ id. no_column id i) inputs) ∙ h.whole;
+  }
 
-pub column_within : (names : List Name) (lent xs last : List LentToken) (ns ms : List ℕ) → lent ≡ xs → last ≡ xs → ns ≡ ms →
-    map (number_for names) (text_tokens_view lent) ≡ map (λ n. Some n) ms → (at : ℕ) → IsFirstRepeat ns at → at < length last
-column_within names lent xs last ns ms same other alike aligned at first =
-    let inside : at < length ns = slice_get_within ns at first.repeat.member first.repeat.again in
-    let size : length (text_tokens_view lent) ≡ length ms = sym (length-map (text_tokens_view lent) (number_for names))
-    ∙ ap length aligned ∙ length-map ms (λ n. Some n) in
-    let lent_size : length (text_tokens_view lent) ≡ length lent = length-map lent text_token_view in
-    let one : length lent ≡ length xs = ap length same in
-    let two : length last ≡ length xs = ap length other in
-    let three : length ns ≡ length ms = ap length alike in
-    omega (arith, inside, size, lent_size, one, two, three)
-
--- ---- whether an input has a column
-
-module _ (names : List Name) (id : ℕ) where
-  any_among : (xs : List TextToken) (ns : List ℕ) → map (number_for names) xs ≡ map (λ n. Some n) ns →
-      list_any (is_for names id) xs ≡ is_among ns id
-  any_among [] [] e = refl
-  any_among [] (n ∷ ns) e = absurd cc
-  any_among (x ∷ xs) [] e = absurd cc
-  any_among (x ∷ xs) (n ∷ ns) e =
-      let first : number_for names x ≡ Some n = cc in
-      let others : map (number_for names) xs ≡ map (λ k. Some k) ns = cc in
-      rw (first, any_among xs ns others) refl
-
-  pub no_column : (xs : List TextToken) (numbers : List ℕ) (places : List (Option ℕ)) (slot : Option ℕ) (none : Bool) →
-      HasColumns names xs numbers places → id < length names → slice_get places id ≡ Some slot → is_some slot ≡ not none →
-      none ≡ not (list_any (is_for names id) xs)
-  no_column xs numbers places slot none h within at e =
-      sym (not_not none) ∙ ap not (sym e ∙ by slot placed ∙ sym (any_among xs numbers h.numbers_are)) where
-        placed : IsPlace numbers id slot
-        placed =
-            let found = h.placed.each id within in
-            subst (IsPlace numbers id) (same_Some found.0 slot (sym found.1 ∙ at)) found.2
-
-        by : (s : Option ℕ) → IsPlace numbers id s → is_some s ≡ is_among numbers id
-        by (Some p) k = sym (among_at numbers p id k)
-        by None k = sym k
-
--- ---- rows of the stem, and then of the cycle
-
-module _ (test : List ℕ → Bool) where
-  pub first_left : (xs ys : List (List ℕ)) (at : ℕ) → IsFirstAt test xs at → IsFirstAt test (xs ++ ys) at
-  first_left xs ys at h =
-      let inside : at < length xs = slice_get_within xs at h.member h.there in
+  -- a fault of the entries is a cause
+  pub column_cause : (domain : ℕ) (fault : EntryFault) → HasEntryFault names inputs (columns_of given) fault →
+      HasRowCause names inputs given domain (column_error fault)
+  column_cause domain (entry.Unknown s f) h =
+      let column = some_mapped column_subject_of (find (λ x. not (is_input_name names inputs x)) given.names) h.entry
+      (sym found_known ∙ h.first) in
       record {
-        member = h.member;
-        there = slice_get-front xs ys at inside ∙ h.there;
-        passed = h.passed;
-        none_before = λ i x less found. h.none_before i x less (sym (slice_get-front xs ys i (omega (arith, less, inside))) ∙ found);
+        column = column.0;
+        first = column.1;
+        starts = h.starts ∙ ap (λ (e : Subject). e.name.token.start) (sym column.2);
+        ends = h.ends ∙ ap (λ (e : Subject). e.name.token.end) (sym column.2);
       }
-
-  pub first_right : (xs ys : List (List ℕ)) (at : ℕ) → find test xs ≡ None → IsFirstAt test ys at →
-      IsFirstAt test (xs ++ ys) (length xs + at)
-  first_right [] ys at none h = record {
-    member = h.member;
-    there = ap (slice_get ys) (omega arith) ∙ h.there;
-    passed = h.passed;
-    none_before = λ i x less found. h.none_before i x (omega (arith, less)) found;
+  column_cause domain (entry.Twice s f) h =
+      let column = some_mapped column_subject_of (slice_get given.names h.at) h.entry
+      (sym (slice_get-map column_subject_of given.names h.at) ∙ h.there) in
+      record {
+        known = known_columns h.known;
+        at = h.at;
+        first = subst (λ (ns : List (Option ℕ)). IsFirstRepeat ns h.at) (numbers_are names given) h.first;
+        column = column.0;
+        there = column.1;
+        starts = h.starts ∙ ap (λ (e : Subject). e.name.token.start) (sym column.2);
+        ends = h.ends ∙ ap (λ (e : Subject). e.name.token.end) (sym column.2);
+      }
+  column_cause domain (entry.Missing id) h = record {
+    so_far = once_columns h.so_far;
+    first = sym (λ i. find (λ s. no_column s i) inputs) ∙ h.first;
   }
-  first_right (r ∷ xs) ys at none h = by (test r) refl (first_right xs ys at) none where
-    by : (b : Bool) → test r ≡ b → (find test xs ≡ None → IsFirstAt test ys at → IsFirstAt test (xs ++ ys) (length xs + at)) →
-        cond b (Some r) (find test xs) ≡ None → IsFirstAt test (r ∷ (xs ++ ys)) (length (r ∷ xs) + at)
-    by true e further k = absurd cc
-    by false e further k =
-        let rest = further k h in
-        let place : length (r ∷ xs) + at ≡ suc (length xs + at) = omega arith in
-        rw place (record { member = rest.member; there = rest.there; passed = rest.passed; none_before = before rest }) where
-          before : IsFirstAt test (xs ++ ys) (length xs + at) → (i : ℕ) (x : List ℕ) → i < suc (length xs + at) →
-              slice_get (r ∷ (xs ++ ys)) i ≡ Some x → test x ≡ false
-          before rest zero x less found = ap test (sym (same_Some r x found)) ∙ e
-          before rest (suc i) x less found = rest.none_before i x (omega (arith, less)) found
+  column_cause domain entry.NoMemory h = tt
 
-  pub rows_right : (ls lc stem cycle : List Row) (at n : ℕ) → ls ≡ stem → lc ≡ cycle → n ≡ length ls → find test (numbers_view ls) ≡ None →
-      IsFirstAt test (numbers_view lc) at → IsFirstAt test (numbers_view stem ++ numbers_view cycle) (n + at)
-  rows_right ls lc stem cycle at n a b size none h =
-      let many : n + at ≡ length (numbers_view ls) + at = ap (λ k. k + at) (size ∙ sym (length-map ls (λ r. r.items))) in
-      subst (λ ss. IsFirstAt test (numbers_view ss ++ numbers_view cycle) (n + at)) a
-      (subst (λ cs. IsFirstAt test (numbers_view ls ++ numbers_view cs) (n + at)) b
-      (rw many (first_right (numbers_view ls) (numbers_view lc) at none h)))
+  -- each input's column has a place
+  pub have_places : (places : List (Option ℕ)) → AreLocated names (columns_of given) places →
+      AllByRecursion (λ s. s < length names) inputs → AreWhole names inputs given → HavePlaces places inputs
+  have_places places l within h =
+      All-from_recursion (λ s. IsSomeAnd (slice_get places s) (λ slot. is_some slot ≡ true)) inputs
+      (each_both (λ s. s < length names) (λ s. has_no_column names given s ≡ false)
+      (λ s. IsSomeAnd (slice_get places s) (λ slot. is_some slot ≡ true))
+      (λ s inside e. has_place names s (columns_of given) places l inside (no_column s ∙ e)) inputs within
+      (each_fails (has_no_column names given) inputs h.whole))
 
-  pub rows_neither : (ls lc stem cycle : List Row) → ls ≡ stem → lc ≡ cycle → find test (numbers_view ls) ≡ None →
-      find test (numbers_view lc) ≡ None → find test (numbers_view stem ++ numbers_view cycle) ≡ None
-  rows_neither ls lc stem cycle a b none also =
-      ap (λ ss. find test (numbers_view ss ++ numbers_view cycle)) (sym a)
-      ∙ ap (λ cs. find test (numbers_view ls ++ numbers_view cs)) (sym b) ∙ find_neither test (numbers_view ls) (numbers_view lc) none also
+-- the column of each input stands at its place
+pub order_stands : {names : List Name} {columns : List Subject} {places : List (Option ℕ)} (l : AreLocated names columns places)
+    (order inputs : List ℕ) → AllByRecursion (λ s. s < length names) inputs → AreOrdered places inputs order →
+    map (slice_get l.numbers) order ≡ map (λ s. Some s) inputs
+order_stands l [] [] within e = refl
+order_stands l [] (s ∷ inputs) within e = absurd cc
+order_stands l (p ∷ order) [] within e = absurd cc
+order_stands {places = places} l (p ∷ order) (s ∷ inputs) within e =
+    let first : slice_get places s ≡ Some (Some p) = cc in
+    let others : map (λ (q : ℕ). Some (Some q)) order ≡ map (slice_get places) inputs = cc in
+    λ i. slot_is l s (Some p) within.0 first i ∷ order_stands l order inputs within.1 others i
 
--- the first number that is no value stands in the row that was found
-pub same_row : {B : Type 0} (f : List ℕ → B) (test : List ℕ → Bool) (rows : List (List ℕ)) (at : ℕ) (h : IsFirstAt test rows at)
-    (r : List ℕ) → slice_get rows at ≡ Some r → f h.member ≡ f r
-same_row f test rows at h r found = ap f (same_Some h.member r (sym h.there ∙ found))
-
--- ---- rows in the order of the inputs
-
-module _ (names : List Name) (id : ℕ) where
-  pub place_stands : (xs : List TextToken) (numbers : List ℕ) (places : List (Option ℕ)) (slot : Option ℕ) →
-      HasColumns names xs numbers places → id < length names → slice_get places id ≡ Some slot → IsPlace numbers id slot
-  place_stands xs numbers places slot h within at =
-      let found = h.placed.each id within in
-      subst (IsPlace numbers id) (same_Some found.0 slot (sym found.1 ∙ at)) found.2
-
-  pub place_there : (xs : List TextToken) (numbers : List ℕ) (places : List (Option ℕ)) (slot : Option ℕ) →
-      HasColumns names xs numbers places → id < length names → slice_get places id ≡ Some slot → list_any (is_for names id) xs ≡ true →
-      is_some slot ≡ true
-  place_there xs numbers places slot h within at any = by slot (place_stands xs numbers places slot h within at) where
-    by : (s : Option ℕ) → IsPlace numbers id s → is_some s ≡ true
-    by (Some p) k = refl
-    by None k = let never : true ≡ false = sym any ∙ any_among names id xs numbers h.numbers_are ∙ k in cc
-
--- what holds of each row
-pub of_row : (P : List ℕ → Type 0) (rows : List Row) (i : ℕ) (row : Row) → i < length rows → row ≡ get_or rows i row →
-    All P (numbers_view rows) → P row.items
-of_row P rows i row within is all = each_at P (numbers_view rows) i row.items (recursion_from_All P (numbers_view rows) all)
-    (there rows i row within is)
-
-pub row_pushed : (order : List ℕ) (rows : List Row) (i : ℕ) (row : Row) (all : List (List ℕ)) (vs : List ℕ) → i < length rows →
-    row ≡ get_or rows i row → map (λ v. Some v) vs ≡ map (slice_get row.items) order →
-    map (λ r. map (λ v. Some v) r) all ≡ map (λ r. map (slice_get r) order) (numbers_view (take i rows)) →
-    map (λ r. map (λ v. Some v) r) (all ++ vs ∷ []) ≡ map (λ r. map (slice_get r) order) (numbers_view (take (i + 1) rows))
-row_pushed order rows i row all vs within is values h =
-    map-append (λ r. map (λ v. Some v) r) all (vs ∷ []) ∙ ap (λ ys. ys ++ map (λ v. Some v) vs ∷ []) h
-    ∙ ap (λ o. map (λ r. map (slice_get r) order) (numbers_view (take i rows)) ++ o ∷ []) values
-    ∙ sym (map-append (λ r. map (slice_get r) order) (numbers_view (take i rows)) (row.items ∷ []))
-    ∙ ap (map (λ r. map (slice_get r) order)) (sym (map-append (λ r. r.items) (take i rows) (row ∷ []))
-    ∙ ap numbers_view (ap (λ r. take i rows ++ r ∷ []) is ∙ sym (take_more rows i row within)))
-
--- ---- the rows that are given
-
-beside_at : (s : ℕ) (columns row : List ℕ) (p : ℕ) → slice_get columns p ≡ Some s → ((k : ℕ) → k < p → slice_get columns k ≡ Some s → ⊥) →
-    beside s columns row ≡ slice_get row p
-beside_at s [] row p at new = absurd (none-some s at)
-beside_at s (c ∷ columns) [] p at new = refl
-beside_at s (c ∷ columns) (v ∷ row) zero at new =
-    let same : c ≡ s = same_Some c s at in
-    rw (same, eqb_self s) refl
-beside_at s (c ∷ columns) (v ∷ row) (suc p) at new =
-    by (c == s) refl (beside_at s columns row p at (λ k less found. new (suc k) (omega (arith, less)) found)) where
-      by : (b : Bool) → (c == s) ≡ b → beside s columns row ≡ slice_get row p → cond b (Some v) (beside s columns row) ≡ slice_get row p
-      by true e rest = absurd (new zero (omega arith) (ap (λ n. Some n) (eqb-true c s e)))
-      by false e rest = rest
-
-module _ (numbers : List ℕ) (once : HasNoRepeat numbers) where
-  besides : (order inputs row : List ℕ) → map (slice_get numbers) order ≡ map (λ s. Some s) inputs →
-      map (λ s. beside s numbers row) inputs ≡ map (slice_get row) order
-  besides [] [] row e = refl
-  besides [] (s ∷ inputs) row e = absurd cc
-  besides (p ∷ order) [] row e = absurd cc
-  besides (p ∷ order) (s ∷ inputs) row e =
-      let first : slice_get numbers p ≡ Some s = cc in
-      let others : map (slice_get numbers) order ≡ map (λ t. Some t) inputs = cc in
-      let here : beside s numbers row ≡ slice_get row p = beside_at s numbers row p first (λ k less found.
-      once p (record { earlier = k; before = less; member = s; first = found; again = first })) in
-      ap (λ o. o ∷ map (λ t. beside t numbers row) inputs) here ∙ ap (λ os. slice_get row p ∷ os) (besides order inputs row others)
-
-  there_some : (vs : List ℕ) → all_there (map (λ v. Some v) vs) ≡ Some vs
-  there_some [] = refl
-  there_some (v ∷ vs) = ap (option_map (λ xs. v ∷ xs)) (there_some vs)
-
-  pub rows_given : (order inputs : List ℕ) → map (slice_get numbers) order ≡ map (λ s. Some s) inputs → (rows all : List (List ℕ)) →
-      map (λ r. map (λ v. Some v) r) all ≡ map (λ r. map (slice_get r) order) rows → all_there (map (by_inputs numbers inputs) rows)
-      ≡ Some all
-  rows_given order inputs stands [] [] e = refl
-  rows_given order inputs stands [] (vs ∷ all) e = absurd cc
-  rows_given order inputs stands (r ∷ rows) [] e = absurd cc
-  rows_given order inputs stands (r ∷ rows) (vs ∷ all) e =
-      let first : map (λ v. Some v) vs ≡ map (slice_get r) order = cc in
-      let others : map (λ q. map (λ v. Some v) q) all ≡ map (λ q. map (slice_get q) order) rows = cc in
-      let here : by_inputs numbers inputs r ≡ Some vs = ap all_there (besides order inputs r stands ∙ sym first) ∙ there_some vs in
-      ap (λ o. all_there (o ∷ map (by_inputs numbers inputs) rows)) here
-      ∙ ap (option_map (λ xs. vs ∷ xs)) (rows_given order inputs stands rows all others)
-
--- what the checks say of each input and each row
-
-whole_each : (names : List Name) (xs : List TextToken) (inputs : List ℕ) → find (λ id. not (list_any (is_for names id) xs)) inputs ≡ None →
-    AllByRecursion (λ id. list_any (is_for names id) xs ≡ true) inputs
-whole_each names xs [] h = tt
-whole_each names xs (s ∷ inputs) h = by (list_any (is_for names s) xs) refl (whole_each names xs inputs) h where
-  by : (b : Bool) → list_any (is_for names s) xs ≡ b → (find (λ id. not (list_any (is_for names id) xs)) inputs ≡ None →
-      AllByRecursion (λ id. list_any (is_for names id) xs ≡ true) inputs) →
-      cond (not b) (Some s) (find (λ id. not (list_any (is_for names id) xs)) inputs) ≡ None →
-      AllByRecursion (λ id. list_any (is_for names id) xs ≡ true) (s ∷ inputs)
-  by true e further k = (e, further k)
-  by false e further k = absurd cc
-
-pub all_whole : (names : List Name) (xs : List TextToken) (inputs : List ℕ) → find (λ id. not (list_any (is_for names id) xs)) inputs
-    ≡ None →
-    All (λ id. list_any (is_for names id) xs ≡ true) inputs
-all_whole names xs inputs h = All-from_recursion (λ id. list_any (is_for names id) xs ≡ true) inputs (whole_each names xs inputs h)
-
-pub rows_below : (domain : ℕ) (rows : List (List ℕ)) → find (λ r. is_some (find (is_no_value domain) r)) rows ≡ None →
-    AllByRecursion (λ r. AllByRecursion (λ v. v < domain) r) rows
-rows_below domain rows h = by rows (each_fails (λ r. is_some (find (is_no_value domain) r)) rows h) where
-  by : (rs : List (List ℕ)) → AllByRecursion (λ r. is_some (find (is_no_value domain) r) ≡ false) rs →
-      AllByRecursion (λ r. AllByRecursion (λ v. v < domain) r) rs
-  by [] each = tt
-  by (r ∷ rs) each = (below_each domain r (none_is (find (is_no_value domain) r) each.0), by rs each.1)
-
-pub rows_small : (domain : ℕ) → domain < 2 ^ 32 → (rows : List (List ℕ)) → AllByRecursion (λ r. AllByRecursion (λ v. v < domain) r) rows →
-    All (λ r. All (λ v. v < 2 ^ 32) r) rows
-rows_small domain low rows h = All-from_recursion (λ r. All (λ v. v < 2 ^ 32) r) rows (by rows h) where
-  less : (r : List ℕ) → AllByRecursion (λ v. v < domain) r → AllByRecursion (λ v. v < 2 ^ 32) r
-  less [] each = tt
-  less (v ∷ r) each = (omega (arith, low, each.0), less r each.1)
-
-  by : (rs : List (List ℕ)) → AllByRecursion (λ r. AllByRecursion (λ v. v < domain) r) rs → AllByRecursion (λ r. All (λ v. v < 2 ^ 32) r) rs
-  by [] each = tt
-  by (r ∷ rs) each = (All-from_recursion (λ v. v < 2 ^ 32) r (less r each.0), by rs each.1)
+-- a slot that there is lies within the places
+pub slot_within : (places : List (Option ℕ)) (s : ℕ) → IsSomeAnd (slice_get places s) (λ slot. is_some slot ≡ true) → s < length places
+slot_within places s h = by (slice_get places s) refl h where
+  by : (o : Option (Option ℕ)) → slice_get places s ≡ o → IsSomeAnd o (λ slot. is_some slot ≡ true) → s < length places
+  by None e k = absurd k
+  by (Some slot) e k = slice_get_within places s slot e

@@ -1,7 +1,7 @@
 -- What entries without a cause of refusal say of each needed name, and that they give an interpretation.
-use Rattle.std.proofs.Common.{◌≡◌, ◌∙◌, ℕ, zero, suc, ◌<◌, ◌≤◌, ◌==◌, ◌^◌, Bool, true, false, not, ◌&&◌, cond, List, [], ◌∷◌}
+use Rattle.std.proofs.Common.{◌≡◌, ◌∙◌, ℕ, zero, suc, ◌<◌, ◌≤◌, ◌==◌, ◌^◌, true, false, not, ◌&&◌, cond, List, [], ◌∷◌}
 use Rattle.std.proofs.Common.{length, map, Option, Some, None, refl, sym, ap, subst, arith}
-use Rattle.std.specs.Prelude.{option_map, option_and_then, slice_get, is_some, filter, nat_lt, All, IsTrue, codes}
+use Rattle.std.specs.Prelude.{option_map, option_and_then, slice_get, is_some, filter, nat_lt, All, IsTrue}
 use Rattle.std.specs.Option.{option_map_or}
 use Rattle.std.specs.List.{find, list_all, AllByRecursion}
 use Rattle.std.proofs.lemmas.Bool.{and_parts, ltb-true, eqb-true}
@@ -13,34 +13,26 @@ use Rattle.std.proofs.lemmas.List.Elements.{All-from_recursion, recursion_from_A
 use Rattle.sequence.proofs.Finds.{each_fails}
 use Rattle.sequence.proofs.Gathered.{length-all_there}
 use Rattle.sequence.proofs.Numbers.{numbers_at}
-use Rattle.sequence.proofs.Options.{none_is}
+use Rattle.sequence.proofs.Options.{none_is, some_mapped}
+use Rattle.sequence.proofs.Lists.{map_map}
+use Rattle.table_interp.proofs.Growing.{gathered_are}
 use Rattle.sequence.specs.Numbers.{numbers_from}
 use Rattle.sequence.specs.Options.{all_there, passes}
-use Rattle.sequence.proofs.Each.{each_left, each_right, each_at}
-use Rattle.sequence.proofs.Passes.{filter_has, each_from_list_all, within_from_test}
+use Rattle.sequence.proofs.Each.{each_right, each_at, each_weaker, each_both}
+use Rattle.sequence.proofs.Passes.{each_from_list_all}
 use Rattle.tsl_terms.specs.declared.names.NameKind.{NameKind}
 use Rattle.tsl_terms.specs.declared.names.NameKind.TheVariants.{Signal, Function, Predicate}
 use Rattle.tsl_terms.specs.Name.{Name, is_name, same_kind}
-use Rattle.tsl_terms.specs.Equality.{names_equality, is_equality}
-use Rattle.std.specs.Str.{bytes_eq}
+use Rattle.tsl_terms.specs.Equality.{is_equality}
 use Rattle.tsl_meaning.specs.Interpretation.{Interpretation, IsInterpretation, IsTable}
 use Rattle.table_interp.specs.declared.TheConstants.{MOST_VALUES}
 use Rattle.table_syntax.specs.Syntax.{Entry, TablesSyntax, has_table}
 use Rattle.entry_names.specs.Needed.{is_symbol_number, needed}
 use Rattle.entry_names.specs.Entries.{subject_of, has_no_entry}
-use Rattle.entry_names.proofs.NeededNames.{needed_within, symbol_within}
+use Rattle.entry_names.proofs.NeededNames.{needed_within, symbol_needed, symbol_is, no_function}
 use Rattle.entry_names.proofs.Locate.{found_entry}
 use Rattle.table_interp.specs.Tables.{subjects_of, numbers_for, size_of, has_other_length, limit_of, too_large, table_of, IsInRange, Gives}
 use Rattle.table_interp.specs.internal.Located.{HasSmallTable, HasOneSmall}
-
--- the cells are names
-pub cells_within : (names : List Name) (cells : List ℕ) → IsTrue (list_all (λ s. is_name names s Signal 0) cells) →
-    All (λ s. s < length names) cells
-cells_within names cells h = All-from_recursion (λ s. s < length names) cells
-    (by cells (each_from_list_all (λ s. is_name names s Signal 0) cells h)) where
-      by : (xs : List ℕ) → AllByRecursion (λ s. is_name names s Signal 0 ≡ true) xs → AllByRecursion (λ s. s < length names) xs
-      by [] each = tt
-      by (x ∷ xs) each = (within_from_test names x (λ n. same_kind n.kind Signal && (n.arity == 0)) each.0, by xs each.1)
 
 -- ---- what is known of a needed name
 
@@ -54,10 +46,9 @@ pub record IsGiven (names : List Name) (given : TablesSyntax) (id : ℕ) : Type 
   pub small : AllByRecursion (λ v. v < limit_of given.domain name.kind) numbers
 
 pub below_each : (limit : ℕ) (xs : List ℕ) → find (λ v. not (nat_lt v limit)) xs ≡ None → AllByRecursion (λ v. v < limit) xs
-below_each limit xs h = by xs (each_fails (λ v. not (nat_lt v limit)) xs h) where
-  by : (ys : List ℕ) → AllByRecursion (λ v. not (nat_lt v limit) ≡ false) ys → AllByRecursion (λ v. v < limit) ys
-  by [] each = tt
-  by (y ∷ ys) each = (ltb-true y limit (not-false (nat_lt y limit) each.0), by ys each.1)
+below_each limit xs h =
+    each_weaker (λ v. not (nat_lt v limit) ≡ false) (λ v. v < limit) (λ v e. ltb-true v limit (not-false (nat_lt v limit) e)) xs
+    (each_fails (λ v. not (nat_lt v limit)) xs h)
 
 is_given : (names : List Name) (given : TablesSyntax) (id : ℕ) → id < length names → has_no_entry names (subjects_of given) id ≡ false →
     has_other_length names given id ≡ false → is_some (too_large names given id) ≡ false → IsGiven names given id
@@ -109,18 +100,6 @@ name_kind n e =
     let parts = and_parts (same_kind n.kind Signal) (n.arity == 0) e in
     (kind_signal n.kind Signal parts.0, eqb-true n.arity 0 parts.1)
 
--- a function is not equality
-no_function : (names : List Name) (id : ℕ) (name : Name) → slice_get names id ≡ Some name → name.kind ≡ Function →
-    is_equality names id ≡ false
-no_function names id name there kind =
-    ap (λ o. option_map_or names_equality o false) there
-    ∙ ap (λ k. bytes_eq (codes "eq") name.text && (same_kind k Predicate && (name.arity == 2))) kind
-    ∙ by (bytes_eq (codes "eq") name.text)
-  where
-    by : (b : Bool) → (b && false) ≡ false
-    by true = refl
-    by false = refl
-
 pub paired : (f : ℕ → Option (List ℕ)) (cells initial : List ℕ) → all_there (map f cells) ≡ Some (map (λ v. v ∷ []) initial) →
     length cells ≡ length initial
 paired f cells initial h = sym (length-map cells f) ∙ sym (length-all_there (map f cells) (map (λ v. v ∷ []) initial) h)
@@ -146,86 +125,64 @@ module _ (names : List Name) (cells : List ℕ) (given : TablesSyntax) (within :
 
   pub symbol_given : (id : ℕ) → is_symbol_number names id ≡ true → IsGiven names given id
   symbol_given id symbol =
-      let inside : id < length names = symbol_within names id symbol in
-      let place = filter_has (is_symbol_number names) (numbers_from 0 (length names)) id id (numbers_at 0 (length names) id inside
-      ∙ ap (λ n. Some n) (omega arith)) symbol in
-      each_at (IsGiven names given) (filter (is_symbol_number names) (numbers_from 0 (length names))) place.0 id
-      (each_left (IsGiven names given) (filter (is_symbol_number names) (numbers_from 0 (length names))) cells each_given) place.1
+      let place = symbol_needed names cells id symbol in
+      each_at (IsGiven names given) (needed names cells) place.0 id each_given place.1
 
   -- a function or a predicate has a table of small numbers
   pub small_table : given.domain ≤ MOST_VALUES → (id : ℕ) → HasSmallTable names given.entries id
   small_table few id symbol =
       let g = symbol_given id symbol in
-      rw g.is (All-from_recursion (λ n. n < 2 ^ 32) g.numbers (each_less (limit_of given.domain g.name.kind)
-      (limit_small g.name.kind) g.numbers g.small))
+      rw g.is (All-from_recursion (λ n. n < 2 ^ 32) g.numbers (each_weaker (λ v. v < limit_of given.domain g.name.kind) (λ v. v < 2 ^ 32)
+      (λ v less. omega (arith, limit_small g.name.kind, less)) g.numbers g.small))
     where
       limit_small : (kind : NameKind) → limit_of given.domain kind ≤ 256
       limit_small Signal = few
       limit_small Function = few
       limit_small Predicate = omega arith
 
-      each_less : (limit : ℕ) → limit ≤ 256 → (ns : List ℕ) → AllByRecursion (λ v. v < limit) ns → AllByRecursion (λ v. v < 2 ^ 32) ns
-      each_less limit low [] each = tt
-      each_less limit low (n ∷ ns) each = (omega (arith, low, each.0), each_less limit low ns each.1)
-
   -- a cell has one number, a value
   pub cells_one : given.domain ≤ MOST_VALUES → IsTrue (list_all (λ s. is_name names s Signal 0) cells) →
       AllByRecursion (HasOneSmall names given.entries) cells
-  cells_one few are = by cells cells_given (each_from_list_all (λ s. is_name names s Signal 0) cells are) where
-    single : (ns : List ℕ) → length ns ≡ 1 → (n : ℕ) × (ns ≡ n ∷ [])
-    single [] e = cc
-    single (n ∷ []) e = (n, refl)
-    single (n ∷ m ∷ ns) e = absurd (omega (arith, e))
+  cells_one few are =
+      each_both (IsGiven names given) (λ s. is_name names s Signal 0 ≡ true) (HasOneSmall names given.entries) one cells cells_given
+      (each_from_list_all (λ s. is_name names s Signal 0) cells are) where
+        single : (ns : List ℕ) → length ns ≡ 1 → (n : ℕ) × (ns ≡ n ∷ [])
+        single [] e = cc
+        single (n ∷ []) e = (n, refl)
+        single (n ∷ m ∷ ns) e = absurd (omega (arith, e))
 
-    one : (s : ℕ) → IsGiven names given s → is_name names s Signal 0 ≡ true → HasOneSmall names given.entries s
-    one s g is =
-        let kind = name_kind g.name (sym (ap (λ o. option_map_or (λ n. same_kind n.kind Signal && (n.arity == 0)) o false) g.there) ∙ is) in
-        let size : length g.numbers ≡ 1 = g.many ∙ ap (λ n. given.domain ^ n) kind.1 ∙ pow-zero given.domain in
-        let alone = single g.numbers size in
-        let below : AllByRecursion (λ v. v < given.domain) (alone.0 ∷ []) =
-        subst (λ (ns : List ℕ). AllByRecursion (λ v. v < given.domain) ns) alone.1
-        (subst (λ (k : NameKind). AllByRecursion (λ v. v < limit_of given.domain k) g.numbers) kind.0 g.small) in
-        record { number = alone.0; is = g.is ∙ ap (λ ns. Some ns) alone.1; small = omega (arith, few, below.0) }
-
-    by : (ids : List ℕ) → AllByRecursion (IsGiven names given) ids → AllByRecursion (λ s. is_name names s Signal 0 ≡ true) ids →
-        AllByRecursion (HasOneSmall names given.entries) ids
-    by [] a b = tt
-    by (s ∷ ids) a b = (one s a.0 b.0, by ids a.1 b.1)
+        one : (s : ℕ) → IsGiven names given s → is_name names s Signal 0 ≡ true → HasOneSmall names given.entries s
+        one s g is =
+            let kind = name_kind g.name (sym (ap (λ o. option_map_or (λ n. same_kind n.kind Signal && (n.arity == 0)) o false) g.there) ∙ is) in
+            let size : length g.numbers ≡ 1 = g.many ∙ ap (λ n. given.domain ^ n) kind.1 ∙ pow-zero given.domain in
+            let alone = single g.numbers size in
+            let below : AllByRecursion (λ v. v < given.domain) (alone.0 ∷ []) =
+            subst (λ (ns : List ℕ). AllByRecursion (λ v. v < given.domain) ns) alone.1
+            (subst (λ (k : NameKind). AllByRecursion (λ v. v < limit_of given.domain k) g.numbers) kind.0 g.small) in
+            record { number = alone.0; is = g.is ∙ ap (λ ns. Some ns) alone.1; small = omega (arith, few, below.0) }
 
   -- ---- the interpretation
 
   module _ (interpretation : Interpretation) (gives : Gives names cells given interpretation) where
-    there_at : {X : Type 0} (os : List (Option X)) (xs : List X) (i : ℕ) (x : X) → all_there os ≡ Some xs → slice_get os i ≡ Some (Some x) →
-        slice_get xs i ≡ Some x
-    there_at [] xs i x h at = absurd (none-some (Some x) at)
-    there_at (None ∷ os) xs i x h at = absurd (none-some xs h)
-    there_at {X = X} (Some y ∷ os) xs i x h at = by (all_there os) (λ ys j e. there_at os ys j x e) refl i h at where
-      by : (found : Option (List X)) →
-          ((ys : List X) (j : ℕ) → all_there os ≡ Some ys → slice_get os j ≡ Some (Some x) → slice_get ys j ≡ Some x) →
-          all_there os ≡ found → (i : ℕ) → option_map (λ ys. y ∷ ys) found ≡ Some xs → slice_get (Some y ∷ os) i ≡ Some (Some x) →
-          slice_get xs i ≡ Some x
-      by None further e i k at = absurd (none-some xs k)
-      by (Some ys) further e zero k at =
-          ap (λ zs. slice_get zs 0) (sym (same_Some (y ∷ ys) xs k)) ∙ same_Some (Some y) (Some x) at
-      by (Some ys) further e (suc j) k at =
-          ap (λ zs. slice_get zs (suc j)) (sym (same_Some (y ∷ ys) xs k)) ∙ further ys j e at
-
     table_at : (id : ℕ) (g : IsGiven names given id) → id < length names → is_symbol_number names id ≡ true →
         slice_get interpretation.tables id ≡ Some g.numbers
     table_at id g inside symbol =
         let table : table_of names given.entries id ≡ Some g.numbers =
         ap (λ b. cond b (numbers_for names given.entries id) (Some [])) symbol ∙ g.is in
-        there_at (map (table_of names given.entries) (numbers_from 0 (length names))) interpretation.tables id g.numbers gives.tables
-        (slice_get-map (table_of names given.entries) (numbers_from 0 (length names)) id
+        let found = some_mapped (λ t. Some t) (slice_get interpretation.tables id) (Some g.numbers)
+        (sym (slice_get-map (λ t. Some t) interpretation.tables id)
+        ∙ ap (λ ts. slice_get ts id)
+        (sym (gathered_are (map (table_of names given.entries) (numbers_from 0 (length names))) interpretation.tables gives.tables))
+        ∙ slice_get-map (table_of names given.entries) (numbers_from 0 (length names)) id
         ∙ ap (option_map (table_of names given.entries)) (numbers_at 0 (length names) id inside ∙ ap (λ n. Some n) (omega arith))
-        ∙ ap (λ t. Some t) table)
+        ∙ ap (λ t. Some t) table) in
+        found.1 ∙ found.2
 
     is_table : (id : ℕ) (name : Name) (limit : ℕ) → slice_get names id ≡ Some name → has_table name.kind ≡ true →
         is_equality names id ≡ false → limit_of given.domain name.kind ≡ limit →
         (table : List ℕ) × (slice_get interpretation.tables id ≡ Some table) × IsTable interpretation.domain name.arity limit table
     is_table id name limit there kind other is =
-        let symbol : is_symbol_number names id ≡ true =
-        λ i. (ap (passes (λ n. has_table n.kind)) there ∙ kind) i && not (other i) in
+        let symbol = symbol_is names id name there kind other in
         let g : IsGiven names given id = symbol_given id symbol in
         let same : g.name ≡ name = same_Some g.name name (sym g.there ∙ there) in
         let size : length g.numbers ≡ interpretation.domain ^ name.arity =
@@ -247,7 +204,9 @@ module _ (names : List Name) (cells : List ℕ) (given : TablesSyntax) (within :
       initial = (
         sym (paired (numbers_for names given.entries) cells interpretation.initial gives.initial),
         All-from_recursion (λ v. v < interpretation.domain) interpretation.initial
-            (values interpretation.initial cells cells_given (each_from_list_all (λ s. is_name names s Signal 0) cells are) gives.initial),
+            (values interpretation.initial cells cells_given (each_from_list_all (λ s. is_name names s Signal 0) cells are)
+            (gathered_are (map (numbers_for names given.entries) cells) (map (λ v. v ∷ []) interpretation.initial) gives.initial
+            ∙ map_map (λ x. Some x) (λ v. v ∷ []) interpretation.initial)),
       );
     } where
       single : (s v : ℕ) → IsGiven names given s → is_name names s Signal 0 ≡ true → numbers_for names given.entries s ≡ Some (v ∷ []) →
@@ -262,22 +221,10 @@ module _ (names : List Name) (cells : List ℕ) (given : TablesSyntax) (within :
           omega (arith, below.0, gives.domain)
 
       values : (vs ids : List ℕ) → AllByRecursion (IsGiven names given) ids → AllByRecursion (λ s. is_name names s Signal 0 ≡ true) ids →
-          all_there (map (numbers_for names given.entries) ids) ≡ Some (map (λ v. v ∷ []) vs) →
-          AllByRecursion (λ v. v < interpretation.domain) vs
+          map (numbers_for names given.entries) ids ≡ map (λ v. Some (v ∷ [])) vs → AllByRecursion (λ v. v < interpretation.domain) vs
       values [] ids a b h = tt
       values (v ∷ vs) [] a b h = absurd cc
       values (v ∷ vs) (s ∷ ids) a b h =
-          by (numbers_for names given.entries s) refl (all_there (map (numbers_for names given.entries) ids))
-          (values vs ids a.1 b.1) refl h where
-            by : (o : Option (List ℕ)) → numbers_for names given.entries s ≡ o → (rest : Option (List (List ℕ))) →
-                (all_there (map (numbers_for names given.entries) ids) ≡ Some (map (λ v. v ∷ []) vs) →
-                AllByRecursion (λ v. v < interpretation.domain) vs) → all_there (map (numbers_for names given.entries) ids) ≡ rest →
-                all_there (o ∷ map (numbers_for names given.entries) ids) ≡ Some (map (λ v. v ∷ []) (v ∷ vs)) →
-                AllByRecursion (λ v. v < interpretation.domain) (v ∷ vs)
-            by None e rest further f k = absurd (none-some _ k)
-            by (Some ns) e None further f k = absurd (none-some _ (sym (ap (option_map (λ xs. ns ∷ xs)) f) ∙ k))
-            by (Some ns) e (Some xs) further f k =
-                let same : ns ∷ xs ≡ (v ∷ []) ∷ map (λ w. w ∷ []) vs = same_Some _ _ (sym (ap (option_map (λ xs. ns ∷ xs)) f) ∙ k) in
-                let first : ns ≡ v ∷ [] = cc in
-                let others : xs ≡ map (λ w. w ∷ []) vs = cc in
-                (single s v a.0 b.0 (e ∙ ap (λ n. Some n) first), further (f ∙ ap (λ n. Some n) others))
+          let first : numbers_for names given.entries s ≡ Some (v ∷ []) = cc in
+          let others : map (numbers_for names given.entries) ids ≡ map (λ w. Some (w ∷ [])) vs = cc in
+          (single s v a.0 b.0 first, values vs ids a.1 b.1 others)

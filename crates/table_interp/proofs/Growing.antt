@@ -1,8 +1,18 @@
--- Lists of numbers that grow by one in each round of a loop.
-use Rattle.std.proofs.Common.{◌≡◌, ◌∙◌, ℕ, ◌+◌, ◌<◌, List, [], ◌∷◌, ◌++◌, length, map, take, get_or, Option, Some, sym, ap}
+-- Lists that are gathered, and lists of numbers that grow by one in each round of a loop.
+use Rattle.std.proofs.Common.{◌≡◌, ◌∙◌, ℕ, ◌+◌, ◌<◌, List, [], ◌∷◌, ◌++◌, length, map, take, get_or, Option, Some, None, sym, ap}
 use Rattle.std.proofs.lemmas.List.{take_more, map-append}
 use Rattle.sequence.specs.Options.{all_there}
 use Rattle.sequence.proofs.Gathered.{gather_more}
+use Rattle.sequence.proofs.Options.{some_mapped}
+use Rattle.std.proofs.lemmas.Option.{none-some, same_Some}
+
+-- where all are there, the list is theirs
+pub gathered_are : {X : Type 0} (os : List (Option X)) (xs : List X) → all_there os ≡ Some xs → os ≡ map (λ x. Some x) xs
+gathered_are [] xs is = ap (map (λ x. Some x)) (same_Some [] xs is)
+gathered_are (None ∷ os) xs is = absurd (none-some xs is)
+gathered_are (Some x ∷ os) xs is =
+    let rest = some_mapped (λ ys. x ∷ ys) (all_there os) xs is in
+    ap (λ zs. Some x ∷ zs) (gathered_are os rest.0 rest.1) ∙ ap (map (λ y. Some y)) rest.2
 
 -- one value of a cell more
 pub gather_single : (f : ℕ → Option (List ℕ)) (ys : List ℕ) (i d : ℕ) (vs : List ℕ) (v : ℕ) → i < length ys →

@@ -1,11 +1,10 @@
 mod Lookups
 mod Growing
-mod GivenNumbers
 mod Facts
 mod Refusals
+mod Rows
 mod Columns
 mod Loops
 mod OneReading
-mod Stages
 mod OneTableCause
 mod OneInputCause

@@ -1,6 +1,5 @@
 -- The rows that are given make an input loop.
-use Rattle.std.proofs.Common.{◌≡◌, ◌∙◌, ℕ, ◌<◌, ◌==◌, Bool, true, false, cond, List, [], ◌∷◌, ◌++◌, length, map, Option, Some, None, refl, sym, ap, arith}
-use Rattle.std.specs.Prelude.{option_map}
+use Rattle.std.proofs.Common.{◌≡◌, ◌∙◌, ℕ, ◌<◌, ◌==◌, Bool, true, false, cond, List, [], ◌∷◌, ◌++◌, length, map, Some, sym, ap, arith}
 use Rattle.std.specs.List.{AllByRecursion}
 use Rattle.std.proofs.lemmas.List.{length-map}
 use Rattle.std.proofs.lemmas.Option.{none-some, same_Some}
@@ -13,7 +12,8 @@ use Rattle.tsl_terms.specs.Value.{beside}
 use Rattle.tsl_meaning.specs.Interpretation.{InputRows, IsRow, IsInputLoop}
 use Rattle.table_syntax.specs.Syntax.{InputsSyntax}
 use Rattle.table_interp.specs.Inputs.{by_inputs, all_rows, GivesRows}
-use Rattle.table_interp.proofs.Columns.{rows_below}
+use Rattle.table_interp.proofs.Growing.{gathered_are}
+use Rattle.table_interp.proofs.Rows.{rows_below}
 
 beside_below : (domain s : ℕ) (columns row : List ℕ) (v : ℕ) → AllByRecursion (λ w. w < domain) row → beside s columns row ≡ Some v →
     v < domain
@@ -25,43 +25,26 @@ beside_below domain s (c ∷ columns) (w ∷ row) v each e = by (c == s) (beside
   by false further k = further k
 
 values_below : (domain : ℕ) (columns row inputs vs : List ℕ) → AllByRecursion (λ w. w < domain) row →
-    all_there (map (λ s. beside s columns row) inputs) ≡ Some vs → AllByRecursion (λ w. w < domain) vs
-values_below domain columns row [] vs each e = by (same_Some [] vs e) where
-  by : [] ≡ vs → AllByRecursion (λ w. w < domain) vs
-  by k = rw (← k) tt
-values_below domain columns row (s ∷ inputs) vs each e =
-    by (beside s columns row) refl (all_there (map (λ t. beside t columns row) inputs)) refl
-    (λ us k. values_below domain columns row inputs us each k) e where
-      by : (o : Option ℕ) → beside s columns row ≡ o → (rest : Option (List ℕ)) → all_there (map (λ t. beside t columns row) inputs)
-          ≡ rest →
-          ((us : List ℕ) → all_there (map (λ t. beside t columns row) inputs) ≡ Some us → AllByRecursion (λ w. w < domain) us) →
-          all_there (o ∷ map (λ t. beside t columns row) inputs) ≡ Some vs → AllByRecursion (λ w. w < domain) vs
-      by None a rest b further k = absurd (none-some vs k)
-      by (Some v) a None b further k = absurd (none-some vs (sym (ap (option_map (λ xs. v ∷ xs)) b) ∙ k))
-      by (Some v) a (Some us) b further k =
-          let same : v ∷ us ≡ vs = same_Some (v ∷ us) vs (sym (ap (option_map (λ xs. v ∷ xs)) b) ∙ k) in
-          rw (← same) (beside_below domain s columns row v each a, further us b)
+    map (λ s. beside s columns row) inputs ≡ map (λ v. Some v) vs → AllByRecursion (λ w. w < domain) vs
+values_below domain columns row inputs [] each e = tt
+values_below domain columns row [] (v ∷ vs) each e = absurd cc
+values_below domain columns row (s ∷ inputs) (v ∷ vs) each e =
+    let first : beside s columns row ≡ Some v = cc in
+    let others : map (λ t. beside t columns row) inputs ≡ map (λ w. Some w) vs = cc in
+    (beside_below domain s columns row v each first, values_below domain columns row inputs vs each others)
 
 rows_fit : (domain : ℕ) (columns inputs : List ℕ) (rows all : List (List ℕ)) →
     AllByRecursion (λ r. AllByRecursion (λ w. w < domain) r) rows →
-    all_there (map (by_inputs columns inputs) rows) ≡ Some all → AllByRecursion (IsRow domain inputs) all
-rows_fit domain columns inputs [] all each e = by (same_Some [] all e) where
-  by : [] ≡ all → AllByRecursion (IsRow domain inputs) all
-  by k = rw (← k) tt
-rows_fit domain columns inputs (r ∷ rows) all each e =
-    by (by_inputs columns inputs r) refl (all_there (map (by_inputs columns inputs) rows)) refl
-    (λ us k. rows_fit domain columns inputs rows us each.1 k) e where
-      by : (o : Option (List ℕ)) → by_inputs columns inputs r ≡ o → (rest : Option (List (List ℕ))) →
-          all_there (map (by_inputs columns inputs) rows) ≡ rest →
-          ((us : List (List ℕ)) → all_there (map (by_inputs columns inputs) rows) ≡ Some us → AllByRecursion (IsRow domain inputs) us) →
-          all_there (o ∷ map (by_inputs columns inputs) rows) ≡ Some all → AllByRecursion (IsRow domain inputs) all
-      by None a rest b further k = absurd (none-some all k)
-      by (Some v) a None b further k = absurd (none-some all (sym (ap (option_map (λ xs. v ∷ xs)) b) ∙ k))
-      by (Some v) a (Some us) b further k =
-          let same : v ∷ us ≡ all = same_Some (v ∷ us) all (sym (ap (option_map (λ xs. v ∷ xs)) b) ∙ k) in
-          let size : length v ≡ length inputs = length-all_there (map (λ s. beside s columns r) inputs) v a
-          ∙ length-map inputs (λ s. beside s columns r) in
-          rw (← same) ((size, All-from_recursion (λ w. w < domain) v (values_below domain columns r inputs v each.0 a)), further us b)
+    map (by_inputs columns inputs) rows ≡ map (λ r. Some r) all → AllByRecursion (IsRow domain inputs) all
+rows_fit domain columns inputs rows [] each e = tt
+rows_fit domain columns inputs [] (v ∷ all) each e = absurd cc
+rows_fit domain columns inputs (r ∷ rows) (v ∷ all) each e =
+    let first : all_there (map (λ s. beside s columns r) inputs) ≡ Some v = cc in
+    let others : map (by_inputs columns inputs) rows ≡ map (λ q. Some q) all = cc in
+    let size : length v ≡ length inputs = length-all_there (map (λ s. beside s columns r) inputs) v first
+    ∙ length-map inputs (λ s. beside s columns r) in
+    let below = values_below domain columns r inputs v each.0 (gathered_are (map (λ s. beside s columns r) inputs) v first) in
+    ((size, All-from_recursion (λ w. w < domain) v below), rows_fit domain columns inputs rows all each.1 others)
 
 pub are_loop : (names : List Name) (inputs : List ℕ) (given : InputsSyntax) (domain : ℕ) (rows : InputRows ℕ) → 0 < length given.cycle →
     GivesRows names inputs given domain rows → IsInputLoop domain inputs rows
@@ -74,11 +57,13 @@ are_loop names inputs given domain rows some g = record {
   stem =
       All-from_recursion (IsRow domain inputs) rows.stem
       (rows_fit domain g.columns inputs given.stem rows.stem
-      (each_left (λ r. AllByRecursion (λ w. w < domain) r) given.stem given.cycle below) g.stem);
+      (each_left (λ r. AllByRecursion (λ w. w < domain) r) given.stem given.cycle below)
+      (gathered_are (map (by_inputs g.columns inputs) given.stem) rows.stem g.stem));
   cycle =
       All-from_recursion (IsRow domain inputs) rows.cycle
       (rows_fit domain g.columns inputs given.cycle rows.cycle
-      (each_right (λ r. AllByRecursion (λ w. w < domain) r) given.stem given.cycle below) g.cycle);
+      (each_right (λ r. AllByRecursion (λ w. w < domain) r) given.stem given.cycle below)
+      (gathered_are (map (by_inputs g.columns inputs) given.cycle) rows.cycle g.cycle));
 } where
   below : AllByRecursion (λ r. AllByRecursion (λ w. w < domain) r) (given.stem ++ given.cycle)
   below = rows_below domain (all_rows given) g.in_range.in_range

@@ -31,7 +31,7 @@ ghost use Rattle.table_interp.specs.internal.Located.{located_tables, IsLocated,
 
 use crate::tables::Tables;
 use crate::{MOST_ENTRIES, MOST_VALUES, TableError};
-use entry_names::{entry_places, is_symbol_number, needed, place_of};
+use entry_names::{entry_for, entry_places, is_symbol_number, needed};
 use sequence::{NoMemory, Sequence};
 use std::alloc::{AllocError, Global};
 use table_syntax::{Entry, TablesText};
@@ -52,12 +52,9 @@ fn numbers_for<'a, 'b>(given: &Located<'a, 'b>, id: u32) -> Option<&'b [u64]>
     requires within { id < length given.now.names.now }
     ensures { option_map (λ ns. ns.now) result ≡ numbers_for given.now.names.now (located_tables given.now).entries id }
 {
-    match place_of(given.places, id) {
+    match entry_for(given.names, given.entries, given.places, id) {
         None => None,
-        Some(place) => match given.entries.get(place) {
-            None => None,
-            Some(entry) => Some(entry.numbers.as_slice()),
-        },
+        Some(entry) => Some(entry.numbers.as_slice()),
     }
 }
 

@@ -2,114 +2,51 @@
 
 ghost use Rattle.std.specs.Prelude.{◌≡◌, ℕ, ◌<◌, ◌≤◌, ◌^◌, ◌++◌, Some, None, true, IsTrue, is_some, not, option_map, length, map, slice_get, All, IfOk, IfErr, IfSome, IfNone, IsSomeAnd};
 ghost use Rattle.std.specs.Prelude.{MatchOption};
-ghost use Rattle.std.specs.List.{find, list_all, list_any};
+ghost use Rattle.std.specs.List.{find, list_all};
 ghost use Rattle.sequence.specs.Numbers.{IsDistinct};
 ghost use Rattle.sequence.specs.Options.{all_there};
 ghost use Rattle.tsl_terms.specs.declared.names.NameKind.TheVariants.{Signal};
 ghost use Rattle.tsl_terms.specs.Name.{is_name};
 ghost use Rattle.tsl_meaning.specs.Interpretation.{rows_of};
-ghost use Rattle.entry_names.specs.Needed.{is_for};
+ghost use Rattle.entry_names.specs.Entries.{AreLocated};
 ghost use Rattle.table_interp.specs.Inputs.{
-  has_no_column,
   has_other_width,
   is_no_value,
   all_rows,
   by_inputs,
   IsFirstAt,
-  AreOnce,
+  AreWhole,
   AreCounted,
   AreInRange,
   GivesRows,
   HasRowCause,
 };
-ghost use Rattle.table_syntax.specs.View.{inputs_view, numbers_view, text_tokens_view};
-ghost use Rattle.table_interp.specs.internal.Ordered.{AreColumnsOf, AreOrdered, HasColumns};
+ghost use Rattle.table_syntax.specs.View.{inputs_view, numbers_view};
+ghost use Rattle.table_interp.specs.internal.Ordered.{columns_of, HavePlaces, AreOrdered};
 
 use crate::entries::first_from;
-use crate::naming::{NameFault, column_numbers};
 use crate::{InputError, MOST_ROWS};
-use entry_names::{RepeatFault, marks, place_of, places};
+use entry_names::{entry_places, place_of};
 use sequence::{NoMemory, Sequence};
 use std::alloc::{AllocError, Global};
-use table_syntax::{InputsText, TextToken};
+use table_syntax::InputsText;
 use tsl_meaning::InputLoop;
 use tsl_terms::Names;
-use tsl_text::Token;
 
-/// The columns of a text, the numbers of their names, and the place of the column for each name.
-#[derive(Clone, Copy)]
-pub(crate) struct Columns<'a, 'b> {
-    names: &'b Names,
-    terminals: &'b [TextToken<'a>],
-    numbers: &'b [u32],
-    places: &'b [Option<usize>],
-}
-
-/// The numbers and the places of the columns of a text.
-#[derive(Drop)]
-struct Numbered {
-    numbers: Vec<u32>,
-    places: Vec<Option<usize>>,
-}
-
-/// The token of the column at a place.
-fn column_at(columns: &[TextToken], at: usize) -> Token
-    requires { at < length columns.now }
-    ensures { IsSomeAnd (slice_get (text_tokens_view columns.now) at) (λ x. result ≡ x.token) }
-{
-    columns[at].token
-}
-
-/// The numbers and the places of the columns of a text.
-fn number_columns(
+/// The place of the column for each name, where each input has one column, and there is none for another name.
+fn column_places(
     alloc: Global,
     names: &Names,
     inputs: &[u32],
     given: &InputsText,
-) -> Result<Numbered, InputError>
-    requires inputs { All (λ s. s < length names.now) inputs.now }
-    ensures once { IfOk result (λ n. AreOnce names.now inputs.now (inputs_view given.now)) }
-    ensures numbered { IfOk result (λ n. HasColumns names.now (inputs_view given.now).names n.numbers.items n.places.items) }
+) -> Result<Vec<Option<usize>>, InputError>
+    requires inputs { IsTrue (list_all (λ s. is_name names.now s Signal 0) inputs.now) }
+    ensures whole { IfOk result (λ places. AreWhole names.now inputs.now (inputs_view given.now)) }
+    ensures located { IfOk result (λ places. AreLocated names.now (columns_of (inputs_view given.now)) places.items) }
     ensures cause { IfErr result (λ e. (domain : ℕ) → HasRowCause names.now inputs.now (inputs_view given.now) domain e) }
 {
-    let marks = marks(alloc, names.count(), inputs)?;
-    let numbers = match column_numbers(alloc, names, inputs, &marks, &given.names) {
-        Ok(numbers) => numbers,
-        Err(NameFault::Unknown(token)) => return Err(InputError::Unknown(token.start, token.end)),
-        Err(NameFault::NoMemory) => return Err(InputError::NoMemory),
-    };
-    match places(alloc, names.count(), &numbers) {
-        Ok(places) => Ok(Numbered { numbers, places }),
-        Err(RepeatFault::Repeat(at)) => {
-            let token = column_at(&given.names, at);
-            Err(InputError::Twice(token.start, token.end))
-        }
-        Err(RepeatFault::NoMemory) => Err(InputError::NoMemory),
-    }
-}
-
-/// Whether an input has no column.
-fn has_no_column(columns: &Columns, id: u32) -> bool
-    requires columns { AreColumnsOf columns.now }
-    requires within { id < length columns.now.names.now }
-    ensures { result ≡ not (list_any (is_for columns.now.names.now id) (text_tokens_view columns.now.terminals.now)) }
-{
-    place_of(columns.places, id).is_none()
-}
-
-/// The first input without a column.
-fn first_without_column(columns: &Columns, inputs: &[u32]) -> Option<u32>
-    requires columns { AreColumnsOf columns.now }
-    requires within { All (λ id. id < length columns.now.names.now) inputs.now }
-    ensures { result ≡ find (λ id. not (list_any (is_for columns.now.names.now id) (text_tokens_view columns.now.terminals.now)))
-        inputs.now }
-{
-    for id in inputs {
-        if has_no_column(columns, *id) {
-            return Some(*id);
-        }
-    }
-    None
+    let places = entry_places(alloc, names, inputs, given.names.as_slice())?;
+    Ok(places)
 }
 
 /// Whether a row has another number of numbers than there are inputs.
@@ -186,18 +123,12 @@ fn row_at<'a, 'b>(given: &'b InputsText<'a>, place: usize) -> &'b [u64]
     }
 }
 
-/// Whether each input has a column, there are few enough rows, and each has one number for each input.
-fn check_widths(columns: &Columns, inputs: &[u32], given: &InputsText) -> Result<(), InputError>
-    requires columns { AreColumnsOf columns.now }
-    requires same { columns.now.terminals.now ≡ given.now.names.items }
-    requires within { All (λ id. id < length columns.now.names.now) inputs.now }
-    requires once { AreOnce columns.now.names.now inputs.now (inputs_view given.now) }
-    ensures ok { IfOk result (λ _. AreCounted columns.now.names.now inputs.now (inputs_view given.now)) }
-    ensures cause { IfErr result (λ e. (domain : ℕ) → HasRowCause columns.now.names.now inputs.now (inputs_view given.now) domain e) }
+/// Whether there are few enough rows, and each has one number for each input.
+fn check_widths(names: &Names, inputs: &[u32], given: &InputsText) -> Result<(), InputError>
+    requires { AreWhole names.now inputs.now (inputs_view given.now) }
+    ensures ok { IfOk result (λ _. AreCounted names.now inputs.now (inputs_view given.now)) }
+    ensures cause { IfErr result (λ e. (domain : ℕ) → HasRowCause names.now inputs.now (inputs_view given.now) domain e) }
 {
-    if let Some(id) = first_without_column(columns, inputs) {
-        return Err(InputError::Missing(id));
-    }
     if given.stem.len() > MOST_ROWS as usize
         || given.cycle.len() > MOST_ROWS as usize - given.stem.len()
     {
@@ -230,15 +161,13 @@ fn check_values(
 }
 
 /// The place of the column of each input. An `Err` says that memory ran out.
-fn order_of(alloc: Global, columns: &Columns, inputs: &[u32]) -> Result<Vec<usize>, NoMemory>
-    requires columns { AreColumnsOf columns.now }
-    requires within { All (λ id. id < length columns.now.names.now) inputs.now }
-    requires whole { All (λ id. list_any (is_for columns.now.names.now id) (text_tokens_view columns.now.terminals.now) ≡ true) inputs.now }
-    ensures { IfOk result (λ order. AreOrdered columns.now.numbers.now inputs.now order.items) }
+fn order_of(alloc: Global, places: &[Option<usize>], inputs: &[u32]) -> Result<Vec<usize>, NoMemory>
+    requires { HavePlaces places.now inputs.now }
+    ensures { IfOk result (λ order. AreOrdered places.now inputs.now order.items) }
 {
     let mut order = Vec::new(alloc);
     for id in inputs {
-        order.push(place_of(columns.places, *id).unwrap())?;
+        order.push(place_of(places, *id).unwrap())?;
     }
     Ok(order)
 }
@@ -301,16 +230,10 @@ pub(crate) fn rows_from(
     ensures gives { IfOk result (λ rows. GivesRows names.now inputs.now (inputs_view given.now) domain (rows_of rows)) }
     ensures cause { IfErr result (HasRowCause names.now inputs.now (inputs_view given.now) domain) }
 {
-    let found = number_columns(alloc, names, inputs, given)?;
-    let columns = Columns {
-        names,
-        terminals: &given.names,
-        numbers: &found.numbers,
-        places: &found.places,
-    };
-    check_widths(&columns, inputs, given)?;
+    let places = column_places(alloc, names, inputs, given)?;
+    check_widths(names, inputs, given)?;
     check_values(names, inputs, domain, given)?;
-    let order = order_of(alloc, &columns, inputs)?;
+    let order = order_of(alloc, &places, inputs)?;
     let stem = all_ordered(alloc, &order, &given.stem)?;
     let cycle = all_ordered(alloc, &order, &given.cycle)?;
     Ok(InputLoop {

@@ -33,7 +33,6 @@ use tsl_terms::Names;
 mod entries;
 mod inputs;
 mod laws;
-mod naming;
 mod tables;
 
 pub use laws::{
@@ -215,6 +214,21 @@ impl From<TextFault> for InputError {
             TextFault::OpenComment(at) => InputError::OpenComment(at),
             TextFault::Form(at) => InputError::Form(at),
             TextFault::NoMemory => InputError::NoMemory,
+        }
+    }
+}
+
+impl From<EntryFault> for InputError {
+    ghost use Rattle.table_interp.specs.internal.Texts.{column_error};
+
+    ghost from_gives = { λ fault e. e ≡ column_error fault };
+
+    fn from(fault: EntryFault) -> InputError {
+        match fault {
+            EntryFault::Unknown(start, end) => InputError::Unknown(start, end),
+            EntryFault::Twice(start, end) => InputError::Twice(start, end),
+            EntryFault::Missing(id) => InputError::Missing(id),
+            EntryFault::NoMemory => InputError::NoMemory,
         }
     }
 }

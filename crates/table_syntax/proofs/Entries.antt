@@ -3,8 +3,10 @@ use Rattle.std.proofs.Common.{◌≡◌, ℕ, suc, ◌≤◌, true, false, List,
 use Rattle.std.proofs.lemmas.List.{append-nil}
 use Rattle.std.specs.Prelude.{Option, Some, None, option_map, option_and_then, is_some, codes}
 use Rattle.tsl_terms.specs.declared.names.NameKind.{NameKind}
-use Rattle.token_readers.specs.Readers.{Reader, value_or_wrong, taking, and_then}
-use Rattle.token_readers.specs.Exact.{Grammar, Begins, Exact}
+use Rattle.token_readers.specs.Readers.{Reader, value_or_wrong, taking, and_then, map_read, at_end}
+use Rattle.token_readers.specs.Exact.{Grammar, Before, Begins, Exact}
+use Rattle.token_readers.proofs.Runs.{exact_as}
+use Rattle.token_readers.proofs.Then.{Any}
 use Rattle.token_readers.proofs.Terminals.{turn_of}
 use Rattle.token_readers.proofs.Taken.{HasExample, IsOne, taken_begins, taken_exact, IsEnd, Never, end_exact, end_begins}
 use Rattle.token_readers.proofs.Sequels.{
@@ -25,6 +27,76 @@ use Rattle.table_syntax.specs.internal.Reading.{word_at, numeral_at, from_one, p
 use Rattle.table_syntax.proofs.Terminals.{word_is, word_taken, numeral_is, numeral_taken, from_one_is, from_one_taken, word_is_name, word_of_kind}
 use Rattle.table_syntax.proofs.Terminals.{kind_is, has_kind, has_one, has_positive}
 
+-- ---- forms one after another
+
+module _ {T V W : Type 0} where
+  pub then_of : {Is : List T → V → Type 0} {Next : V → Grammar T W} {r : ℕ} {w : W} (front tail : List T) (v : V) → Is front v →
+      Next v r tail w → Then Is Next r (front ++ tail) w
+  then_of front tail v h k = record { value = v; front = front; tail = tail; split = refl; first = h; second = k }
+
+  -- one terminal before a form
+  pub one_then : {value : T → Option V} {Next : V → Grammar T W} {r : ℕ} {tail : List T} {v : V} {w : W} (x : T) → value x ≡ Some v →
+      Next v r tail w → Then (IsOne value) Next r (x ∷ tail) w
+  one_then x e k = then_of (x ∷ []) _ _ (x, refl, e) k
+
+  -- the same at another level
+  pub elsewhere : {Is : List T → V → Type 0} {Next : V → Grammar T W} {r s : ℕ} {xs : List T} {w : W} →
+      ((v : V) (ys : List T) → Next v r ys w → Next v s ys w) → Then Is Next r xs w → Then Is Next s xs w
+  elsewhere lift h = record {
+    value = h.value;
+    front = h.front;
+    tail = h.tail;
+    split = h.split;
+    first = h.first;
+    second = lift h.value h.tail h.second;
+  }
+
+-- ---- forms that are read exactly, and that some terminals are
+
+pub record Form {T V : Type 0} (Is : Grammar T V) (ends : T → Type 0) (room : ℕ) (reader : Reader T V) : Type 0 where
+  pub exact : Exact Is ends room reader
+  pub begins : (r : ℕ) → Begins (Is r) []
+
+pub one_terminal : {T V : Type 0} (value : T → Option V) (room : ℕ) → HasExample value → Form (λ r. IsOne value) Any room (taking value)
+one_terminal value room e = record { exact = taken_exact value e room; begins = λ r. taken_begins value e 0 }
+
+module _ {T V W : Type 0} where
+  pub mapped_form : {Is : Grammar T V} {ends : T → Type 0} {room : ℕ} {reader : Reader T V} (make : V → W) → Form Is ends room reader →
+      Form (IsMapped make Is) ends room (λ xs. map_read make (reader xs))
+  mapped_form {Is = Is} make k = record { exact = mapped_exact make k.exact; begins = λ r. mapped_begins make Is r (k.begins r) }
+
+  pub then_form : {Is : List T → V → Type 0} {Next : V → Grammar T W} {ends : T → Type 0} {room : ℕ} {reader : Reader T V}
+      {next : V → Reader T W} → Form (λ r. Is) Any room reader → ((v : V) → Form (Next v) ends room (next v)) →
+      Form (Then Is Next) ends room (λ xs. and_then (reader xs) next)
+  then_form {Is = Is} {Next = Next} k second = record {
+    exact = then_exact (λ r v. (second v).begins r) k.exact (λ v. (second v).exact);
+    begins = λ r. then_begins Is Next r (k.begins r) (λ v. (second v).begins r);
+  }
+
+  -- before some terminals, with which each further form begins
+  pub before_form : {Is : List T → V → Type 0} {Next : V → Grammar T W} {firsts ends : T → Type 0} {room : ℕ} {reader : Reader T V}
+      {next : V → Reader T W} →
+      ((r : ℕ) (v : V) (xs : List T) (w : W) → Next v r xs w → (rest : List T) → Before ends rest → Before firsts (xs ++ rest)) →
+      Form (λ r. Is) firsts room reader → ((v : V) → Form (Next v) ends room (next v)) →
+      Form (Then Is Next) ends room (λ xs. and_then (reader xs) next)
+  before_form {Is = Is} {Next = Next} follow k second = record {
+    exact = then_before (λ r v. (second v).begins r) follow k.exact (λ v. (second v).exact);
+    begins = λ r. then_begins Is Next r (k.begins r) (λ v. (second v).begins r);
+  }
+
+-- the same in other words
+pub other_form : {T V : Type 0} {Is Others : Grammar T V} {ends fewer : T → Type 0} {room : ℕ} {reader : Reader T V} →
+    ((r : ℕ) (xs : List T) (v : V) → Is r xs v → Others r xs v) → ((r : ℕ) (xs : List T) (v : V) → Others r xs v → Is r xs v) →
+    ((x : T) → fewer x → ends x) → Form Is ends room reader → Form Others fewer room reader
+other_form to from weaker k = record {
+  exact = exact_as to from weaker k.exact;
+  begins = λ r. record {
+    ending = (k.begins r).ending;
+    value = (k.begins r).value;
+    derives = to r (k.begins r).ending (k.begins r).value (k.begins r).derives;
+  };
+}
+
 -- ---- entries
 
 -- the first word of an entry, and what it decides
@@ -32,12 +104,11 @@ abbrev pub IsByKind : {E : Type 0} → (NameKind → Grammar TextToken E) → Gr
 IsByKind IsForm = Then (IsOne kind_at) IsForm
 
 module _ {E : Type 0} (read : NameKind → Reader TextToken E) (IsForm : NameKind → Grammar TextToken E) {each : TextToken → Type 0}
-    (form_exact : (kind : NameKind) (room : ℕ) → Exact (IsForm kind) each room (read kind))
-    (form_begins : (kind : NameKind) (r : ℕ) → Begins (IsForm kind r) [])
+    (form : (kind : NameKind) (room : ℕ) → Form (IsForm kind) each room (read kind))
     (lift_form : (kind : NameKind) (r : ℕ) (xs : List TextToken) (e : E) → IsForm kind r xs e → IsForm kind (suc (suc r)) xs e)
     (named : (x : TextToken) → is_name_token x ≡ true → each x) where
   whole_exact : (room : ℕ) → Exact (IsByKind IsForm) each room (λ xs. and_then (taking kind_at xs) read)
-  whole_exact room = then_exact (λ r kind. form_begins kind r) (taken_exact kind_at has_kind room) (λ kind. form_exact kind room)
+  whole_exact room = (then_form (one_terminal kind_at room has_kind) (λ kind. form kind room)).exact
 
   pub by_kind : (room : ℕ) → Member (IsByKind IsForm) each Never room (member_by read) (λ x. is_some (kind_at x))
       (λ xs. and_then (taking kind_at xs) read)
@@ -47,14 +118,7 @@ module _ {E : Type 0} (read : NameKind → Reader TextToken E) (IsForm : NameKin
     none = λ x rest e. none_here (kind_at x) rest e;
     some = λ x rest e. some_here (kind_at x) x rest e;
     begins = begins;
-    lift = λ r xs e h. record {
-      value = h.value;
-      front = h.front;
-      tail = h.tail;
-      split = h.split;
-      first = h.first;
-      second = lift_form h.value r h.tail e h.second;
-    };
+    lift = λ r xs e h. elsewhere (λ kind ys k. lift_form kind r ys e k) h;
     follows = λ x e. follows x (kind_at x) refl e;
     stops = λ x e. absurd e;
     weaker = λ x e. absurd e;
@@ -135,88 +199,32 @@ module _ {E V : Type 0} {head word : List ℕ} {Are : List TextToken → List E 
         is = e.second.2;
       }
 
-  pub of_parts : (r : ℕ) (xs : List TextToken) (v : V) → HeadedParts head word Are made xs v → IsHeaded head word Are made r xs v
-  of_parts r xs v p = record {
-    value = tt;
-    front = p.first ∷ [];
-    tail = p.one ∷ p.second ∷ p.digits ∷ p.tail;
-    split = p.split;
-    first = (p.first, refl, word_taken head p.first p.is_first);
-    second = record {
-      value = tt;
-      front = p.one ∷ [];
-      tail = p.second ∷ p.digits ∷ p.tail;
-      split = refl;
-      first = (p.one, refl, numeral_taken (codes "1") p.one p.is_one);
-      second = record {
-        value = tt;
-        front = p.second ∷ [];
-        tail = p.digits ∷ p.tail;
-        split = refl;
-        first = (p.second, refl, word_taken word p.second p.is_second);
-        second = record {
-          value = p.number;
-          front = p.digits ∷ [];
-          tail = p.tail;
-          split = refl;
-          first = (p.digits, refl, ap (option_and_then from_one) p.is_number ∙ from_one_taken p.number p.some);
-          second = record {
-            value = p.entries;
-            front = p.tail;
-            tail = [];
-            split = sym (append-nil p.tail);
-            first = p.derived;
-            second = (tt, refl, p.is);
-          };
-        };
-      };
-    };
-  }
+  pub of_parts : {xs : List TextToken} (es : List E) (r : ℕ) (a b c d : TextToken) (n : ℕ) → is_word head a ≡ true →
+      is_numeral (codes "1") b ≡ true → is_word word c ≡ true → number_at d ≡ Some n → 1 ≤ n → Are xs es →
+      IsHeaded head word Are made r (a ∷ b ∷ c ∷ d ∷ xs) (made n es)
+  of_parts {xs = xs} es r a b c d n first one second number some entries =
+      one_then a (word_taken head a first) (one_then b (numeral_taken (codes "1") b one) (one_then c (word_taken word c second)
+      (one_then d (ap (option_and_then from_one) number ∙ from_one_taken n some) (record {
+        value = es;
+        front = xs;
+        tail = [];
+        split = sym (append-nil xs);
+        first = entries;
+        second = (tt, refl, refl);
+      }))))
+
+pub at_the_end : (room : ℕ) → Form (IsEnd {T = TextToken}) Never room at_end
+at_the_end room = record { exact = end_exact room; begins = λ r. end_begins }
 
 module _ {E V : Type 0} {head word : List ℕ} (has_head : HasExample (word_at head)) (has_second : HasExample (word_at word))
-    {Are : List TextToken → List E → Type 0} (none : Begins Are []) {read : Reader TextToken (List E)}
-    (exact : (room : ℕ) → Exact (λ r. Are) Never room read) (made : ℕ → List E → V) where
-  -- such a text, from its end
-  abbrev TextEnd : ℕ → List E → Grammar TextToken V
-  TextEnd n es = IsMapped (λ _. made n es) IsEnd
-
-  abbrev TextEntries : ℕ → Grammar TextToken V
-  TextEntries n = Then Are (TextEnd n)
-
-  abbrev TextNumber : Grammar TextToken V
-  TextNumber = Then (IsOne positive_at) TextEntries
-
-  abbrev TextSecond : Grammar TextToken V
-  TextSecond = Then (IsOne (word_at word)) (λ _. TextNumber)
-
-  abbrev TextOne : Grammar TextToken V
-  TextOne = Then (IsOne (numeral_at (codes "1"))) (λ _. TextSecond)
-
-  end_begin : (r n : ℕ) (es : List E) → Begins (TextEnd n es r) []
-  end_begin r n es = mapped_begins (λ _. made n es) IsEnd r end_begins
-
-  entries_begin : (r n : ℕ) → Begins (TextEntries n r) []
-  entries_begin r n = then_begins Are (TextEnd n) r none (λ es. end_begin r n es)
-
-  number_begin : (r : ℕ) → Begins (TextNumber r) []
-  number_begin r = then_begins (IsOne positive_at) TextEntries r (taken_begins positive_at has_positive 0) (λ n. entries_begin r n)
-
-  second_begin : (r : ℕ) → Begins (TextSecond r) []
-  second_begin r = then_begins (IsOne (word_at word)) (λ _. TextNumber) r (taken_begins (word_at word) has_second 0) (λ v. number_begin r)
-
-  one_begin : (r : ℕ) → Begins (TextOne r) []
-  one_begin r =
-      then_begins (IsOne (numeral_at (codes "1"))) (λ _. TextSecond) r (taken_begins (numeral_at (codes "1")) has_one 0)
-      (λ v. second_begin r)
-
+    {Are : List TextToken → List E → Type 0} {read : Reader TextToken (List E)}
+    (form : (room : ℕ) → Form (λ r. Are) Never room read) (made : ℕ → List E → V) where
   pub headed_exact : (room : ℕ) → Exact (IsHeaded head word Are made) Never room (headed_text head word read made)
   headed_exact room =
-      then_exact (λ r v. one_begin r) (taken_exact (word_at head) has_head room) (λ _.
-      then_exact (λ r v. second_begin r) (taken_exact (numeral_at (codes "1")) has_one room) (λ _.
-      then_exact (λ r v. number_begin r) (taken_exact (word_at word) has_second room) (λ _.
-      then_exact (λ r n. entries_begin r n) (taken_exact positive_at has_positive room) (λ n.
-      then_before (λ r es. end_begin r n es) (λ r es xs v h rest b. nothing_follows Never (λ _. made n es) r xs v h rest b)
-      (exact room) (λ es. mapped_exact (λ _. made n es) (end_exact room))))))
+      (then_form (one_terminal (word_at head) room has_head) (λ _. then_form (one_terminal (numeral_at (codes "1")) room has_one) (λ _.
+      then_form (one_terminal (word_at word) room has_second) (λ _. then_form (one_terminal positive_at room has_positive) (λ n.
+      before_form (λ r es xs v h rest b. nothing_follows Never (λ _. made n es) r xs v h rest b) (form room)
+      (λ es. mapped_form (λ _. made n es) (at_the_end room))))))).exact
 
 pub headed_end : {E V : Type 0} (head word : List ℕ) (read : Reader TextToken (List E)) (made : ℕ → List E → V) →
     Ends (headed_text head word read made)

@@ -5,22 +5,12 @@ use Rattle.std.specs.Prelude.{Option, Some, None, option_map, is_some, codes, if
 use Rattle.tsl_terms.specs.declared.names.NameKind.{NameKind}
 use Rattle.tsl_terms.specs.declared.names.NameKind.TheVariants.{Signal, Function, Predicate}
 use Rattle.token_readers.specs.Readers.{value_or_wrong, taking, and_then, after, push}
-use Rattle.token_readers.specs.Exact.{Grammar, Before, Begins, Exact}
+use Rattle.token_readers.specs.Exact.{Grammar, Before, Exact}
 use Rattle.token_readers.proofs.Runs.{exact_as}
 use Rattle.token_readers.proofs.Then.{Any}
 use Rattle.token_readers.proofs.Terminals.{turn_of, IsAfter}
-use Rattle.token_readers.proofs.Taken.{IsOne, taken_begins, taken_exact, IsEnd, Never, end_exact, end_begins}
-use Rattle.token_readers.proofs.Sequels.{
-  IsMapped,
-  mapped_exact,
-  mapped_begins,
-  Then,
-  then_begins,
-  then_exact,
-  then_before,
-  nothing_follows,
-  after_one,
-}
+use Rattle.token_readers.proofs.Taken.{IsOne, taken_begins, taken_exact, IsEnd, Never}
+use Rattle.token_readers.proofs.Sequels.{IsMapped, Then, nothing_follows, after_one}
 use Rattle.token_readers.proofs.Iterates.{Shrinks, step_shrinks}
 use Rattle.token_readers.proofs.Lists.{AreAll, none, some, Member, stepping, members_exact, marked_member}
 use Rattle.table_syntax.specs.Syntax.{TextToken, is_word, number_at, Entry, TablesSyntax, InputsSyntax}
@@ -72,9 +62,10 @@ use Rattle.table_syntax.specs.internal.Reading.{
   inputs_text,
 }
 use Rattle.table_syntax.proofs.Terminals.{word_is, word_taken, numeral_is, numeral_taken, name_is, name_taken, symbol_is, symbol_taken}
-use Rattle.table_syntax.proofs.Terminals.{words_differ, word_is_name, name_no_number, word_of_kind, kind_is, kind_taken, name_example, number_example}
+use Rattle.table_syntax.proofs.Terminals.{words_differ, word_is_name, name_no_number, word_of_kind, kind_is, kind_taken, name_example}
 use Rattle.table_syntax.proofs.Terminals.{has_number, has_name, has_symbol, has_word, has_one}
-use Rattle.table_syntax.proofs.Entries.{IsByKind, by_kind, IsHeaded, HeadedParts, parts_of, of_parts, headed_exact}
+use Rattle.table_syntax.proofs.Entries.{then_of, one_then, elsewhere, Form, one_terminal, mapped_form, then_form, before_form, other_form}
+use Rattle.table_syntax.proofs.Entries.{IsByKind, by_kind, IsHeaded, HeadedParts, parts_of, of_parts, at_the_end, headed_exact}
 
 -- ---- numbers
 
@@ -137,133 +128,53 @@ IsForm Signal = Then (IsOne name_at) (λ name. IsMapped (λ n. entry_made Signal
 IsForm Function = Then (IsOne symbol_at) (λ name. IsMapped (entry_made Function name) (λ r. AreNumbers))
 IsForm Predicate = Then (IsOne symbol_at) (λ name. IsMapped (entry_made Predicate name) (λ r. AreNumbers))
 
-numbers_begin : Begins AreNumbers []
-numbers_begin = record { ending = []; value = []; derives = no_number }
+pub number_form : (room : ℕ) → Form (λ r. IsNumber) Any room (taking number_at)
+number_form room = one_terminal number_at room has_number
 
-pub number_begins : Begins IsNumber []
-number_begins = record { ending = number_example ∷ []; value = 1; derives = (number_example, refl, refl) }
+numbers_form : (room : ℕ) → Form (λ r. AreNumbers) NoNumber room numbers
+numbers_form room = record { exact = numbers_exact room; begins = λ r. record { ending = []; value = []; derives = no_number } }
 
-form_exact : (kind : NameKind) (room : ℕ) → Exact (IsForm kind) NoNumber room (entry_of_kind kind)
+form : (kind : NameKind) (room : ℕ) → Form (IsForm kind) NoNumber room (entry_of_kind kind)
 unfolding entry_of_kind
-form_exact Signal room =
-    then_exact (λ r name. mapped_begins (λ n. entry_made Signal name (n ∷ [])) (λ r. IsNumber) r number_begins)
-    (taken_exact name_at has_name room)
-    (λ name. exact_as (λ r xs v h. h) (λ r xs v h. h) (λ x e. tt) (mapped_exact (λ n. entry_made Signal name (n ∷ [])) (number_exact room)))
-form_exact Function room =
-    then_exact (λ r name. mapped_begins (entry_made Function name) (λ r. AreNumbers) r numbers_begin)
-    (taken_exact symbol_at has_symbol room)
-    (λ name. mapped_exact (entry_made Function name) (numbers_exact room))
-form_exact Predicate room =
-    then_exact (λ r name. mapped_begins (entry_made Predicate name) (λ r. AreNumbers) r numbers_begin)
-    (taken_exact symbol_at has_symbol room)
-    (λ name. mapped_exact (entry_made Predicate name) (numbers_exact room))
-
-form_begins : (kind : NameKind) (r : ℕ) → Begins (IsForm kind r) []
-form_begins Signal r =
-    then_begins (IsOne name_at) (λ name. IsMapped (λ n. entry_made Signal name (n ∷ [])) (λ r. IsNumber)) r
-    (taken_begins name_at has_name 0)
-    (λ name. mapped_begins (λ n. entry_made Signal name (n ∷ [])) (λ r. IsNumber) r number_begins)
-form_begins Function r =
-    then_begins (IsOne symbol_at) (λ name. IsMapped (entry_made Function name) (λ r. AreNumbers)) r (taken_begins symbol_at has_symbol 0)
-    (λ name. mapped_begins (entry_made Function name) (λ r. AreNumbers) r numbers_begin)
-form_begins Predicate r =
-    then_begins (IsOne symbol_at) (λ name. IsMapped (entry_made Predicate name) (λ r. AreNumbers)) r (taken_begins symbol_at has_symbol 0)
-    (λ name. mapped_begins (entry_made Predicate name) (λ r. AreNumbers) r numbers_begin)
+form Signal room =
+    then_form (one_terminal name_at room has_name)
+    (λ name. other_form (λ r xs v h. h) (λ r xs v h. h) (λ x e. tt) (mapped_form (λ n. entry_made Signal name (n ∷ [])) (number_form room)))
+form Function room = then_form (one_terminal symbol_at room has_symbol) (λ name. mapped_form (entry_made Function name) (numbers_form room))
+form Predicate room =
+    then_form (one_terminal symbol_at room has_symbol) (λ name. mapped_form (entry_made Predicate name) (numbers_form room))
 
 lift_form : (kind : NameKind) (r : ℕ) (xs : List TextToken) (e : Entry) → IsForm kind r xs e → IsForm kind (suc (suc r)) xs e
-lift_form Signal r xs e h = record { value = h.value; front = h.front; tail = h.tail; split = h.split; first = h.first; second = h.second }
-lift_form Function r xs e h = record {
-  value = h.value;
-  front = h.front;
-  tail = h.tail;
-  split = h.split;
-  first = h.first;
-  second =
-      h.second;
-}
-lift_form Predicate r xs e h = record {
-  value = h.value;
-  front = h.front;
-  tail = h.tail;
-  split = h.split;
-  first = h.first;
-  second =
-      h.second;
-}
+lift_form Signal r xs e h = elsewhere (λ v ys k. k) h
+lift_form Function r xs e h = elsewhere (λ v ys k. k) h
+lift_form Predicate r xs e h = elsewhere (λ v ys k. k) h
 
 entry_members : (room : ℕ) → Member (IsByKind IsForm) NoNumber Never room entry_member (λ x. is_some (kind_at x))
     (λ xs. and_then (taking kind_at xs) entry_of_kind)
-entry_members = by_kind entry_of_kind IsForm form_exact form_begins lift_form name_no_number
+entry_members = by_kind entry_of_kind IsForm form lift_form name_no_number
 
 -- what an entry is, by its parts
 
 entry_is : (r : ℕ) (xs : List TextToken) (e : Entry) → IsByKind IsForm r xs e → IsEntry xs e
 entry_is r xs e h = by h.value (kind_is h.first.0 h.value h.first.2) h.second where
-  split : xs ≡ h.first.0 ∷ h.tail
-  split = h.split ∙ ap (λ front. front ++ h.tail) h.first.1
-
   by : (kind : NameKind) → is_word (word_of_kind kind) h.first.0 ≡ true → IsForm kind r h.tail e → IsEntry xs e
   by Signal word k =
       let name = name_is k.first.0 k.value k.first.2 in
       let value = k.second.1 in
-      let tail : h.tail ≡ k.first.0 ∷ value.0 ∷ [] = k.split ∙ ap (λ front. front ++ k.tail) k.first.1
-      ∙ ap (λ zs. k.first.0 ∷ zs) value.1 in
-      rw (split, tail, k.second.2, name.1) (cell h.first.0 k.first.0 value.0 k.second.0 word name.0 value.2)
+      rw (after_one h, after_one k, value.1, k.second.2, name.1) (cell h.first.0 k.first.0 value.0 k.second.0 word name.0 value.2)
   by Function word k =
       let name = symbol_is k.first.0 k.value k.first.2 in
-      let tail : h.tail ≡ k.first.0 ∷ k.tail = k.split ∙ ap (λ front. front ++ k.tail) k.first.1 in
-      rw (split, tail, k.second.2, name.1) (function h.first.0 k.first.0 word name.0 k.second.1)
+      rw (after_one h, after_one k, k.second.2, name.1) (function h.first.0 k.first.0 word name.0 k.second.1)
   by Predicate word k =
       let name = symbol_is k.first.0 k.value k.first.2 in
-      let tail : h.tail ≡ k.first.0 ∷ k.tail = k.split ∙ ap (λ front. front ++ k.tail) k.first.1 in
-      rw (split, tail, k.second.2, name.1) (predicate h.first.0 k.first.0 word name.0 k.second.1)
+      rw (after_one h, after_one k, k.second.2, name.1) (predicate h.first.0 k.first.0 word name.0 k.second.1)
 
 is_entry : (r : ℕ) (xs : List TextToken) (e : Entry) → IsEntry xs e → IsByKind IsForm r xs e
-is_entry r xs e (function {xs = ys} {ns = ns} x y word name h) = record {
-  value = Function;
-  front = x ∷ [];
-  tail = y ∷ ys;
-  split = refl;
-  first = (x, refl, kind_taken x Function word);
-  second = record {
-    value = y;
-    front = y ∷ [];
-    tail = ys;
-    split = refl;
-    first = (y, refl, symbol_taken y name);
-    second = (ns, h, refl);
-  };
-}
-is_entry r xs e (predicate {xs = ys} {ns = ns} x y word name h) = record {
-  value = Predicate;
-  front = x ∷ [];
-  tail = y ∷ ys;
-  split = refl;
-  first = (x, refl, kind_taken x Predicate word);
-  second = record {
-    value = y;
-    front = y ∷ [];
-    tail = ys;
-    split = refl;
-    first = (y, refl, symbol_taken y name);
-    second = (ns, h, refl);
-  };
-}
-is_entry r xs e (cell x y z n word name number) = record {
-  value = Signal;
-  front = x ∷ [];
-  tail = y ∷ z ∷ [];
-  split = refl;
-  first = (x, refl, kind_taken x Signal word);
-  second = record {
-    value = y;
-    front = y ∷ [];
-    tail = z ∷ [];
-    split = refl;
-    first = (y, refl, name_taken y name);
-    second = (n, (z, refl, number), refl);
-  };
-}
+is_entry r xs e (function {ns = ns} x y word name h) =
+    one_then x (kind_taken x Function word) (one_then y (symbol_taken y name) (ns, h, refl))
+is_entry r xs e (predicate {ns = ns} x y word name h) =
+    one_then x (kind_taken x Predicate word) (one_then y (symbol_taken y name) (ns, h, refl))
+is_entry r xs e (cell x y z n word name number) =
+    one_then x (kind_taken x Signal word) (one_then y (name_taken y name) (n, (z, refl, number), refl))
 
 are_entries : (r : ℕ) (xs : List TextToken) (es : List Entry) → AreAll (IsByKind IsForm) r xs es → AreEntries xs es
 are_entries r xs es none = no_entry
@@ -328,7 +239,7 @@ NoRow x = NoWord (codes "row") x × NoNumber x
 row_members : (room : ℕ) → Member (IsAfter (is_word (codes "row")) (λ r. AreNumbers)) NoNumber NoRow room row_member
     (is_word (codes "row")) (after (is_word (codes "row")) numbers)
 row_members room =
-    marked_member (is_word (codes "row")) (name_example (codes "row")) refl numbers_begin (λ r xs v h. h) refl
+    marked_member (is_word (codes "row")) (name_example (codes "row")) refl ((numbers_form 0).begins 0) (λ r xs v h. h) refl
     (λ x rest e. ap (option_map numbers) (after_none (codes "row") x rest e))
     (λ x rest e. ap (option_map numbers) (after_some (codes "row") x rest e)) (λ x e. name_no_number x (word_is_name (codes "row") x e))
     (λ x e. e.0) (λ x e. e.1) (numbers_exact room)
@@ -354,38 +265,23 @@ rows_shrink = step_shrinks (stepping (row_members 0))
 abbrev IsRow : Grammar TextToken (List ℕ)
 IsRow = Then (IsOne (word_at (codes "row"))) (λ _ r. AreNumbers)
 
-row_exact : (room : ℕ) → Exact IsRow NoNumber room row
+row_form : (room : ℕ) → Form IsRow NoNumber room row
 unfolding row
-row_exact room =
-    then_exact (λ r v. numbers_begin) (taken_exact (word_at (codes "row")) (has_word (codes "row") refl) room) (λ v. numbers_exact room)
+row_form room = then_form (one_terminal (word_at (codes "row")) room (has_word (codes "row") refl)) (λ v. numbers_form room)
 
-row_begins : Begins (IsRow 0) []
-row_begins =
-    then_begins (IsOne (word_at (codes "row"))) (λ _ r. AreNumbers) 0 (taken_begins (word_at (codes "row")) (has_word (codes "row") refl) 0)
-    (λ v. numbers_begin)
-
-rows_begin : Begins AreRows []
-rows_begin = record { ending = []; value = []; derives = no_row }
+rows_form : (room : ℕ) → Form (λ r. AreRows) NoRow room rows
+rows_form room = record { exact = rows_exact room; begins = λ r. record { ending = []; value = []; derives = no_row } }
 
 -- a row and further rows
 abbrev AreSome : Grammar TextToken (List (List ℕ))
 AreSome = Then (IsRow 0) (λ first. IsMapped (λ rest. first ∷ rest) (λ r. AreRows))
 
-some_begin : Begins (AreSome 0) []
-some_begin =
-    then_begins (IsRow 0) (λ first. IsMapped (λ rest. first ∷ rest) (λ r. AreRows)) 0 row_begins
-    (λ first. mapped_begins (λ rest. first ∷ rest) (λ r. AreRows) 0 rows_begin)
-
-row_anywhere : (r s : ℕ) (xs : List TextToken) (ns : List ℕ) → IsRow r xs ns → IsRow s xs ns
-row_anywhere r s xs ns h =
-    record { value = h.value; front = h.front; tail = h.tail; split = h.split; first = h.first; second = h.second }
-
-some_exact : (room : ℕ) → Exact AreSome NoRow room some_rows
+some_form : (room : ℕ) → Form AreSome NoRow room some_rows
 unfolding some_rows
-some_exact room =
-    then_before (λ r first. mapped_begins (λ rest. first ∷ rest) (λ r. AreRows) r rows_begin) follow
-    (exact_as (λ r xs ns h. row_anywhere r 0 xs ns h) (λ r xs ns h. row_anywhere 0 r xs ns h) (λ x e. e) (row_exact room))
-    (λ first. mapped_exact (λ rest. first ∷ rest) (rows_exact room))
+some_form room =
+    before_form follow
+    (other_form (λ r xs ns h. elsewhere (λ v ys k. k) h) (λ r xs ns h. elsewhere (λ v ys k. k) h) (λ x e. e) (row_form room))
+    (λ first. mapped_form (λ rest. first ∷ rest) (rows_form room))
   where
     before : (xs rest : List TextToken) (ns : List (List ℕ)) → AreRows xs ns → Before NoRow rest → Before NoNumber (xs ++ rest)
     before xs [] ns no_row b = tt
@@ -398,21 +294,8 @@ some_exact room =
     follow r first xs ns h rest b = before xs rest h.0 h.1 b
 
 row_rows : (xs : List TextToken) (first : List ℕ) (rest : List (List ℕ)) → AreRows xs (first ∷ rest) → AreSome 0 xs (first ∷ rest)
-row_rows xs first rest (more_rows {xs = ys} {ys = zs} x word h more) = record {
-  value = first;
-  front = x ∷ ys;
-  tail = zs;
-  split = refl;
-  first = record {
-    value = tt;
-    front = x ∷ [];
-    tail = ys;
-    split = refl;
-    first = (x, refl, word_taken (codes "row") x word);
-    second = h;
-  };
-  second = (rest, more, refl);
-}
+row_rows xs first rest (more_rows {xs = ys} x word h more) =
+    then_of (x ∷ ys) _ _ (one_then x (word_taken (codes "row") x word) h) (rest, more, refl)
 
 rows_row : (xs : List TextToken) (ns : List (List ℕ)) → AreSome 0 xs ns →
     (first : List ℕ) × (rest : List (List ℕ)) × (ns ≡ first ∷ rest) × AreRows xs (first ∷ rest)
@@ -426,8 +309,8 @@ rows_row xs ns h =
 
 -- ---- whole texts
 
-entries_begin : Begins AreEntries []
-entries_begin = record { ending = []; value = []; derives = no_entry }
+entries_form : (room : ℕ) → Form (λ r. AreEntries) Never room entries
+entries_form room = record { exact = entries_exact room; begins = λ r. record { ending = []; value = []; derives = no_entry } }
 
 abbrev IsTablesText : Grammar TextToken TablesSyntax
 IsTablesText = IsHeaded (codes "tsltables") (codes "domain") AreEntries tables_made
@@ -442,29 +325,13 @@ is_tables : (r : ℕ) (xs : List TextToken) (t : TablesSyntax) → IsTablesText 
 is_tables r xs t h = tables_by xs t (parts_of r xs t h)
 
 tables_are : (r : ℕ) (xs : List TextToken) (t : TablesSyntax) → IsTables xs t → IsTablesText r xs t
-tables_are r xs t (tables {xs = ys} {es = es} a b c d n head one word number few entries) = of_parts r xs t (record {
-  first = a;
-  one = b;
-  second = c;
-  digits = d;
-  number = n;
-  tail = ys;
-  entries = es;
-  split = refl;
-  is_first = head;
-  is_one = one;
-  is_second = word;
-  is_number = number;
-  some = few;
-  derived = entries;
-  is = refl;
-})
+tables_are r xs t (tables a b c d n head one word number few entries) = of_parts _ r a b c d n head one word number few entries
 
 pub tables_exact : (room : ℕ) → Exact (λ r. IsTables) Never room tables_text
 unfolding tables_text
 tables_exact room =
     exact_as is_tables tables_are (λ x e. e)
-    (headed_exact (has_word (codes "tsltables") refl) (has_word (codes "domain") refl) entries_begin entries_exact tables_made room)
+    (headed_exact (has_word (codes "tsltables") refl) (has_word (codes "domain") refl) entries_form tables_made room)
 
 module _ where
   -- a text of inputs, from its end
@@ -492,35 +359,8 @@ module _ where
   abbrev InputsHead : Grammar TextToken InputsSyntax
   InputsHead = Then (IsOne (word_at (codes "tslinputs"))) (λ _. InputsOne)
 
-  columns_begin : Begins AreColumns []
-  columns_begin = record { ending = []; value = []; derives = no_column }
-
-  end_inputs : (r : ℕ) (ns : List TextToken) (stem cycle : List (List ℕ)) → Begins (InputsEnd ns stem cycle r) []
-  end_inputs r ns stem cycle = mapped_begins (λ _. inputs_made ns stem cycle) IsEnd r end_begins
-
-  cycle_inputs : (r : ℕ) (ns : List TextToken) (stem : List (List ℕ)) → Begins (InputsCycle ns stem r) []
-  cycle_inputs r ns stem = then_begins (AreSome 0) (InputsEnd ns stem) r some_begin (λ cycle. end_inputs r ns stem cycle)
-
-  cycle_word_inputs : (r : ℕ) (ns : List TextToken) (stem : List (List ℕ)) → Begins (InputsCycleWord ns stem r) []
-  cycle_word_inputs r ns stem =
-      then_begins (IsOne (word_at (codes "cycle"))) (λ _. InputsCycle ns stem) r
-      (taken_begins (word_at (codes "cycle")) (has_word (codes "cycle") refl) 0) (λ v. cycle_inputs r ns stem)
-
-  stem_inputs : (r : ℕ) (ns : List TextToken) → Begins (InputsStem ns r) []
-  stem_inputs r ns = then_begins AreRows (InputsCycleWord ns) r rows_begin (λ stem. cycle_word_inputs r ns stem)
-
-  stem_word_inputs : (r : ℕ) (ns : List TextToken) → Begins (InputsStemWord ns r) []
-  stem_word_inputs r ns =
-      then_begins (IsOne (word_at (codes "stem"))) (λ _. InputsStem ns) r
-      (taken_begins (word_at (codes "stem")) (has_word (codes "stem") refl) 0) (λ v. stem_inputs r ns)
-
-  columns_inputs : (r : ℕ) → Begins (InputsColumns r) []
-  columns_inputs r = then_begins AreColumns InputsStemWord r columns_begin (λ ns. stem_word_inputs r ns)
-
-  one_inputs : (r : ℕ) → Begins (InputsOne r) []
-  one_inputs r =
-      then_begins (IsOne (numeral_at (codes "1"))) (λ _. InputsColumns) r (taken_begins (numeral_at (codes "1")) has_one 0)
-      (λ v. columns_inputs r)
+  columns_form : (room : ℕ) → Form (λ r. AreColumns) (NoWord (codes "input")) room columns
+  columns_form room = record { exact = columns_exact room; begins = λ r. record { ending = []; value = []; derives = no_column } }
 
   stem_follows : (ns : List TextToken) (r : ℕ) (xs : List TextToken) (t : InputsSyntax) → InputsStemWord ns r xs t →
       (rest : List TextToken) →
@@ -537,37 +377,21 @@ module _ where
         name_no_number h.first.0 (word_is_name (codes "cycle") h.first.0 word),
       )
 
-  some_rows_exact : (room : ℕ) → Exact (λ r. AreSome 0) Never room some_rows
-  some_rows_exact room =
-      exact_as (λ r xs ns h. record {
-        value = h.value;
-        front = h.front;
-        tail = h.tail;
-        split = h.split;
-        first = h.first;
-        second = h.second;
-      }) (λ r xs ns h. record {
-        value = h.value;
-        front = h.front;
-        tail = h.tail;
-        split = h.split;
-        first = h.first;
-        second = h.second;
-      }) (λ x e. absurd e) (some_exact room)
+  some_rows_form : (room : ℕ) → Form (λ r. AreSome 0) Never room some_rows
+  some_rows_form room =
+      other_form (λ r xs ns h. elsewhere (λ v ys k. k) h) (λ r xs ns h. elsewhere (λ v ys k. k) h) (λ x e. absurd e) (some_form room)
 
   input_head_exact : (room : ℕ) → Exact InputsHead Never room inputs_text
   unfolding inputs_text
   input_head_exact room =
-      then_exact (λ r v. one_inputs r) (taken_exact (word_at (codes "tslinputs")) (has_word (codes "tslinputs") refl) room) (λ _.
-      then_exact (λ r v. columns_inputs r) (taken_exact (numeral_at (codes "1")) has_one room) (λ _.
-      then_before (λ r ns. stem_word_inputs r ns) (λ r ns xs t h rest b. stem_follows ns r xs t h rest b) (columns_exact room) (λ ns.
-      then_exact (λ r v. stem_inputs r ns) (taken_exact (word_at (codes "stem")) (has_word (codes "stem") refl) room) (λ _.
-      then_before (λ r stem. cycle_word_inputs r ns stem) (λ r stem xs t h rest b. cycle_follows ns stem r xs t h rest b) (rows_exact room)
-      (λ stem.
-      then_exact (λ r v. cycle_inputs r ns stem) (taken_exact (word_at (codes "cycle")) (has_word (codes "cycle") refl) room) (λ _.
-      then_before (λ r cycle. end_inputs r ns stem cycle)
-      (λ r cycle xs v h rest b. nothing_follows Never (λ _. inputs_made ns stem cycle) r xs v h rest b) (some_rows_exact room)
-      (λ cycle. mapped_exact (λ _. inputs_made ns stem cycle) (end_exact room))))))))
+      (then_form (one_terminal (word_at (codes "tslinputs")) room (has_word (codes "tslinputs") refl)) (λ _.
+      then_form (one_terminal (numeral_at (codes "1")) room has_one) (λ _.
+      before_form (λ r ns xs t h rest b. stem_follows ns r xs t h rest b) (columns_form room) (λ ns.
+      then_form (one_terminal (word_at (codes "stem")) room (has_word (codes "stem") refl)) (λ _.
+      before_form (λ r stem xs t h rest b. cycle_follows ns stem r xs t h rest b) (rows_form room) (λ stem.
+      then_form (one_terminal (word_at (codes "cycle")) room (has_word (codes "cycle") refl)) (λ _.
+      before_form (λ r cycle xs v h rest b. nothing_follows Never (λ _. inputs_made ns stem cycle) r xs v h rest b) (some_rows_form room)
+      (λ cycle. mapped_form (λ _. inputs_made ns stem cycle) (at_the_end room))))))))).exact
 
   is_inputs : (r : ℕ) (xs : List TextToken) (t : InputsSyntax) → InputsHead r xs t → IsInputs xs t
   is_inputs r xs t a =
@@ -585,58 +409,18 @@ module _ where
       (word_is (codes "cycle") e.first.0 e.first.2) cycle.3)
 
   inputs_are : (r : ℕ) (xs : List TextToken) (t : InputsSyntax) → IsInputs xs t → InputsHead r xs t
-  inputs_are r xs t (inputs {xs = us} {ys = vs} {zs = ws} {ns = ns} {stem = stem} {rows = rs} {row = first} a b s c head one columns
-      stem_word
-      stem_rows cycle_word cycle_rows) = record {
-        value = tt;
-        front = a ∷ [];
-        tail = b ∷ (us ++ s ∷ (vs ++ c ∷ ws));
-        split = refl;
-        first = (a, refl, word_taken (codes "tslinputs") a head);
-        second = record {
-          value = tt;
-          front = b ∷ [];
-          tail = us ++ s ∷ (vs ++ c ∷ ws);
-          split = refl;
-          first = (b, refl, numeral_taken (codes "1") b one);
-          second = record {
-            value = ns;
-            front = us;
-            tail = s ∷ (vs ++ c ∷ ws);
-            split = refl;
-            first = columns;
-            second = record {
-              value = tt;
-              front = s ∷ [];
-              tail = vs ++ c ∷ ws;
-              split = refl;
-              first = (s, refl, word_taken (codes "stem") s stem_word);
-              second = record {
-                value = stem;
-                front = vs;
-                tail = c ∷ ws;
-                split = refl;
-                first = stem_rows;
-                second = record {
-                  value = tt;
-                  front = c ∷ [];
-                  tail = ws;
-                  split = refl;
-                  first = (c, refl, word_taken (codes "cycle") c cycle_word);
-                  second = record {
-                    value = first ∷ rs;
-                    front = ws;
-                    tail = [];
-                    split = sym (append-nil ws);
-                    first = row_rows ws first rs cycle_rows;
-                    second = (tt, refl, refl);
-                  };
-                };
-              };
-            };
-          };
-        };
-      }
+  inputs_are r xs t (inputs {xs = us} {ys = vs} {zs = ws} {rows = rs} {row = first} a b s c head one columns stem_word stem_rows
+      cycle_word cycle_rows) =
+      one_then a (word_taken (codes "tslinputs") a head) (one_then b (numeral_taken (codes "1") b one) (then_of us _ _ columns
+      (one_then s (word_taken (codes "stem") s stem_word) (then_of vs _ _ stem_rows
+      (one_then c (word_taken (codes "cycle") c cycle_word) (record {
+        value = first ∷ rs;
+        front = ws;
+        tail = [];
+        split = sym (append-nil ws);
+        first = row_rows ws first rs cycle_rows;
+        second = (tt, refl, refl);
+      }))))))
 
   pub inputs_exact : (room : ℕ) → Exact (λ r. IsInputs) Never room inputs_text
   inputs_exact room = exact_as is_inputs inputs_are (λ x e. e) (input_head_exact room)

@@ -1,8 +1,6 @@
 -- The faults of loops that read members.
 use Rattle.std.proofs.Common.{◌≡◌, List}
-use Rattle.std.proofs.lemmas.Result.{err_from_is_err_and}
-use Rattle.std.specs.Prelude.{Option, Some, Result, IfErr}
-use Rattle.std.specs.Result.{IsErrAnd}
+use Rattle.std.specs.Prelude.{Option, Some}
 use Rattle.token_readers.specs.Readers.{Answer, form, push, iterate}
 use Rattle.token_readers.proofs.Iterates.{Shrinks}
 use Rattle.token_readers.proofs.MemberLoops.{members_wrong}
@@ -10,11 +8,6 @@ use Rattle.table_syntax.specs.Syntax.{TextToken}
 use Rattle.table_syntax.specs.declared.reading.ReadFault.{ReadFault}
 use Rattle.table_syntax.specs.declared.reading.ReadFault.TheVariants.{Form, NoMemory}
 use Rattle.table_syntax.specs.internal.ReadFaults.{IsReadFaultOf}
-
--- a fault that is passed on
-pub passed_on : {T : Type 0} (r : Result T ReadFault) (fault : ReadFault) (P : ReadFault → Type 0) →
-    IsErrAnd r (λ e. e ≡ fault) → P fault → IfErr r P
-passed_on r fault P h k = let p = err_from_is_err_and r h in rw (p.1, p.2) k
 
 -- a member has a fault
 pub members_fault : {V : Type 0} (member : List TextToken → Option (Answer TextToken V)) (shrinks : Shrinks (push member))

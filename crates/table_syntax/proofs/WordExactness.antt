@@ -8,11 +8,11 @@ use Rattle.std.proofs.lemmas.Option.{none-some}
 use Rattle.tsl_terms.specs.declared.names.NameKind.{NameKind}
 use Rattle.tsl_terms.specs.declared.names.NameKind.TheVariants.{Signal, Function, Predicate}
 use Rattle.token_readers.specs.Readers.{taking, and_then, push}
-use Rattle.token_readers.specs.Exact.{Grammar, gives, Begins, Agrees, Exact}
+use Rattle.token_readers.specs.Exact.{Grammar, gives, Agrees, Exact}
 use Rattle.token_readers.proofs.Runs.{exact_as}
 use Rattle.token_readers.proofs.Then.{Any}
-use Rattle.token_readers.proofs.Taken.{HasExample, IsOne, taken_begins, taken_exact, Never}
-use Rattle.token_readers.proofs.Sequels.{IsMapped, mapped_exact, mapped_begins, Then, then_begins, then_exact, after_one}
+use Rattle.token_readers.proofs.Taken.{HasExample, IsOne, Never}
+use Rattle.token_readers.proofs.Sequels.{IsMapped, Then, after_one}
 use Rattle.token_readers.proofs.Iterates.{Shrinks, step_shrinks}
 use Rattle.token_readers.proofs.Lists.{AreAll, none, some, Member, stepping, members_exact}
 use Rattle.table_syntax.specs.declared.words.Operation.{Operation as WordOperation}
@@ -50,8 +50,9 @@ use Rattle.table_syntax.specs.internal.Reading.{
 }
 use Rattle.table_syntax.proofs.Terminals.{words_differ, name_is, name_taken, symbol_is, symbol_taken, word_of_kind, kind_is, kind_taken}
 use Rattle.table_syntax.proofs.Terminals.{name_example, has_name, has_symbol, has_word}
+use Rattle.table_syntax.proofs.Entries.{one_then, elsewhere, Form, one_terminal, mapped_form, then_form, other_form}
 use Rattle.table_syntax.proofs.Entries.{IsByKind, by_kind, IsHeaded, HeadedParts, parts_of, of_parts, headed_exact}
-use Rattle.table_syntax.proofs.Exactness.{IsNumber, number_exact, number_begins}
+use Rattle.table_syntax.proofs.Exactness.{IsNumber, number_form}
 
 -- ---- operations
 
@@ -96,19 +97,18 @@ abbrev IsRest : Option WordOperation → Grammar TextToken WordOperation
 IsRest (Some o) = λ r xs v. (xs ≡ []) × (v ≡ o)
 IsRest None = IsMapped Const (λ r. IsNumber)
 
-rest_exact : (word : Option WordOperation) (room : ℕ) → Exact (IsRest word) Any room (rest_of_operation word)
-rest_exact (Some o) room = record {
-  run = λ xs. record { front = []; rest = xs; outcome = gives o; split = refl; reads = λ other same. refl; says = (refl, refl) };
-  again = λ r xs v h rest b. again r xs v h rest;
+rest_form : (word : Option WordOperation) (room : ℕ) → Form (IsRest word) Any room (rest_of_operation word)
+rest_form (Some o) room = record {
+  exact = record {
+    run = λ xs. record { front = []; rest = xs; outcome = gives o; split = refl; reads = λ other same. refl; says = (refl, refl) };
+    again = λ r xs v h rest b. again r xs v h rest;
+  };
+  begins = λ r. record { ending = []; value = o; derives = (refl, refl) };
 } where
   again : (r : ℕ) (xs : List TextToken) (v : WordOperation) → (xs ≡ []) × (v ≡ o) → (rest : List TextToken) →
       Agrees room r v rest (rest_of_operation (Some o) (xs ++ rest))
   again r xs v h rest = rw h.0 (sym h.1, refl)
-rest_exact None room = mapped_exact Const (number_exact room)
-
-rest_begins : (r : ℕ) (word : Option WordOperation) → Begins (IsRest word r) []
-rest_begins r (Some o) = record { ending = []; value = o; derives = (refl, refl) }
-rest_begins r None = mapped_begins Const (λ r. IsNumber) r number_begins
+rest_form None room = mapped_form Const (number_form room)
 
 is_operation : (r : ℕ) (xs : List TextToken) (o : WordOperation) → Then (IsOne operation_word_at) IsRest r xs o → IsOperation xs o
 is_operation r xs o h = by h.value h.first.2 h.second where
@@ -120,32 +120,14 @@ is_operation r xs o h = by h.value h.first.2 h.second where
       (constant h.first.0 k.1.0 k.0 (constant_if (is_word (codes "const") h.first.0) (operation_at h.first.0) is) k.1.2)
 
 operations_are : (r : ℕ) (xs : List TextToken) (o : WordOperation) → IsOperation xs o → Then (IsOne operation_word_at) IsRest r xs o
-operations_are r xs o (by_word x p word) = record {
-  value = Some p;
-  front = x ∷ [];
-  tail = [];
-  split = refl;
-  first = (x, refl, word_taken x p word);
-  second = (refl, refl);
-}
-operations_are r xs o (constant x y n word number) = record {
-  value = None;
-  front = x ∷ [];
-  tail = y ∷ [];
-  split = refl;
-  first = (x, refl, constant_taken x word);
-  second = (n, (y, refl, number), refl);
-}
+operations_are r xs o (by_word x p word) = one_then x (word_taken x p word) (refl, refl)
+operations_are r xs o (constant x y n word number) = one_then x (constant_taken x word) (n, (y, refl, number), refl)
 
-operation_exact : (room : ℕ) → Exact (λ r. IsOperation) Any room operation
+operation_form : (room : ℕ) → Form (λ r. IsOperation) Any room operation
 unfolding operation
-operation_exact room =
-    exact_as is_operation operations_are (λ x e. e)
-    (then_exact rest_begins (taken_exact operation_word_at has_operation_word room) (λ word. rest_exact word room))
-
-operation_begins : Begins IsOperation []
-operation_begins =
-    record { ending = name_example (codes "add") ∷ []; value = Add; derives = by_word (name_example (codes "add")) Add refl }
+operation_form room =
+    other_form is_operation operations_are (λ x e. e)
+    (then_form (one_terminal operation_word_at room has_operation_word) (λ word. rest_form word room))
 
 -- ---- entries
 
@@ -158,49 +140,24 @@ IsForm Function = Then (IsOne name_at) (λ name. IsMapped (λ o. word_entry_made
 IsForm Predicate = Then (IsOne symbol_at) (λ name. IsMapped (λ t. word_entry_made name (Test t)) (λ r. IsOne test_at))
 IsForm Signal = Then (IsOne name_at) (λ name. IsMapped (λ n. word_entry_made name (Value n)) (λ r. IsNumber))
 
-function_begins : (r : ℕ) (name : TextToken) → Begins (IsMapped (λ o. word_entry_made name (Operation o)) (λ r. IsOperation) r) []
-function_begins r name = mapped_begins (λ o. word_entry_made name (Operation o)) (λ r. IsOperation) r operation_begins
-
-predicate_begins : (r : ℕ) (name : TextToken) → Begins (IsMapped (λ t. word_entry_made name (Test t)) (λ r. IsOne test_at) r) []
-predicate_begins r name = mapped_begins (λ t. word_entry_made name (Test t)) (λ r. IsOne test_at) r (taken_begins test_at has_test 0)
-
-cell_begins : (r : ℕ) (name : TextToken) → Begins (IsMapped (λ n. word_entry_made name (Value n)) (λ r. IsNumber) r) []
-cell_begins r name = mapped_begins (λ n. word_entry_made name (Value n)) (λ r. IsNumber) r number_begins
-
-form_exact : (kind : NameKind) (room : ℕ) → Exact (IsForm kind) Any room (word_entry_of_kind kind)
+form : (kind : NameKind) (room : ℕ) → Form (IsForm kind) Any room (word_entry_of_kind kind)
 unfolding word_entry_of_kind
-form_exact Function room =
-    then_exact function_begins (taken_exact name_at has_name room)
-    (λ name. mapped_exact (λ o. word_entry_made name (Operation o)) (operation_exact room))
-form_exact Predicate room =
-    then_exact predicate_begins (taken_exact symbol_at has_symbol room)
-    (λ name. mapped_exact (λ t. word_entry_made name (Test t)) (taken_exact test_at has_test room))
-form_exact Signal room =
-    then_exact cell_begins (taken_exact name_at has_name room)
-    (λ name. mapped_exact (λ n. word_entry_made name (Value n)) (number_exact room))
-
-form_begins : (kind : NameKind) (r : ℕ) → Begins (IsForm kind r) []
-form_begins Function r =
-    then_begins (IsOne name_at) (λ name. IsMapped (λ o. word_entry_made name (Operation o)) (λ r. IsOperation)) r
-    (taken_begins name_at has_name 0) (function_begins r)
-form_begins Predicate r =
-    then_begins (IsOne symbol_at) (λ name. IsMapped (λ t. word_entry_made name (Test t)) (λ r. IsOne test_at)) r
-    (taken_begins symbol_at has_symbol 0) (predicate_begins r)
-form_begins Signal r =
-    then_begins (IsOne name_at) (λ name. IsMapped (λ n. word_entry_made name (Value n)) (λ r. IsNumber)) r
-    (taken_begins name_at has_name 0) (cell_begins r)
+form Function room =
+    then_form (one_terminal name_at room has_name) (λ name. mapped_form (λ o. word_entry_made name (Operation o)) (operation_form room))
+form Predicate room =
+    then_form (one_terminal symbol_at room has_symbol)
+    (λ name. mapped_form (λ t. word_entry_made name (Test t)) (one_terminal test_at room has_test))
+form Signal room =
+    then_form (one_terminal name_at room has_name) (λ name. mapped_form (λ n. word_entry_made name (Value n)) (number_form room))
 
 lift_form : (kind : NameKind) (r : ℕ) (xs : List TextToken) (e : WordEntry) → IsForm kind r xs e → IsForm kind (suc (suc r)) xs e
-lift_form Function r xs e h =
-    record { value = h.value; front = h.front; tail = h.tail; split = h.split; first = h.first; second = h.second }
-lift_form Predicate r xs e h =
-    record { value = h.value; front = h.front; tail = h.tail; split = h.split; first = h.first; second = h.second }
-lift_form Signal r xs e h =
-    record { value = h.value; front = h.front; tail = h.tail; split = h.split; first = h.first; second = h.second }
+lift_form Function r xs e h = elsewhere (λ v ys k. k) h
+lift_form Predicate r xs e h = elsewhere (λ v ys k. k) h
+lift_form Signal r xs e h = elsewhere (λ v ys k. k) h
 
 entry_members : (room : ℕ) → Member (IsByKind IsForm) Any Never room word_entry_member (λ x. is_some (kind_at x))
     (λ xs. and_then (taking kind_at xs) word_entry_of_kind)
-entry_members = by_kind word_entry_of_kind IsForm form_exact form_begins lift_form (λ x e. tt)
+entry_members = by_kind word_entry_of_kind IsForm form lift_form (λ x e. tt)
 
 entry_is : (r : ℕ) (xs : List TextToken) (e : WordEntry) → IsByKind IsForm r xs e → IsWordEntry xs e
 entry_is r xs e h = by h.value (kind_is h.first.0 h.value h.first.2) h.second where
@@ -220,51 +177,12 @@ entry_is r xs e h = by h.value (kind_is h.first.0 h.value h.first.2) h.second wh
       (word_cell h.first.0 k.first.0 value.0 k.second.0 word name.0 value.2)
 
 is_entry : (r : ℕ) (xs : List TextToken) (e : WordEntry) → IsWordEntry xs e → IsByKind IsForm r xs e
-is_entry r xs e (word_function {xs = ys} {o = o} x y word name h) = record {
-  value = Function;
-  front = x ∷ [];
-  tail = y ∷ ys;
-  split = refl;
-  first = (x, refl, kind_taken x Function word);
-  second = record {
-    value = y;
-    front = y ∷ [];
-    tail = ys;
-    split = refl;
-    first = (y, refl, name_taken y name);
-    second = (o, h, refl);
-  };
-}
-is_entry r xs e (word_predicate x y z t word name test) = record {
-  value = Predicate;
-  front = x ∷ [];
-  tail = y ∷ z ∷ [];
-  split = refl;
-  first = (x, refl, kind_taken x Predicate word);
-  second = record {
-    value = y;
-    front = y ∷ [];
-    tail = z ∷ [];
-    split = refl;
-    first = (y, refl, symbol_taken y name);
-    second = (t, (z, refl, test), refl);
-  };
-}
-is_entry r xs e (word_cell x y z n word name number) = record {
-  value = Signal;
-  front = x ∷ [];
-  tail = y ∷ z ∷ [];
-  split = refl;
-  first = (x, refl, kind_taken x Signal word);
-  second = record {
-    value = y;
-    front = y ∷ [];
-    tail = z ∷ [];
-    split = refl;
-    first = (y, refl, name_taken y name);
-    second = (n, (z, refl, number), refl);
-  };
-}
+is_entry r xs e (word_function {o = o} x y word name h) =
+    one_then x (kind_taken x Function word) (one_then y (name_taken y name) (o, h, refl))
+is_entry r xs e (word_predicate x y z t word name test) =
+    one_then x (kind_taken x Predicate word) (one_then y (symbol_taken y name) (t, (z, refl, test), refl))
+is_entry r xs e (word_cell x y z n word name number) =
+    one_then x (kind_taken x Signal word) (one_then y (name_taken y name) (n, (z, refl, number), refl))
 
 are_entries : (r : ℕ) (xs : List TextToken) (es : List WordEntry) → AreAll (IsByKind IsForm) r xs es → AreWordEntries xs es
 are_entries r xs es none = no_word_entry
@@ -283,8 +201,8 @@ word_entries_shrink = step_shrinks (stepping (entry_members 0))
 
 -- ---- whole texts
 
-entries_begin : Begins AreWordEntries []
-entries_begin = record { ending = []; value = []; derives = no_word_entry }
+entries_form : (room : ℕ) → Form (λ r. AreWordEntries) Never room word_entries
+entries_form room = record { exact = entries_exact room; begins = λ r. record { ending = []; value = []; derives = no_word_entry } }
 
 abbrev IsWordsText : Grammar TextToken WordsSyntax
 IsWordsText = IsHeaded (codes "tslwords") (codes "bits") AreWordEntries words_made
@@ -299,26 +217,10 @@ is_words : (r : ℕ) (xs : List TextToken) (t : WordsSyntax) → IsWordsText r x
 is_words r xs t h = words_by xs t (parts_of r xs t h)
 
 words_are : (r : ℕ) (xs : List TextToken) (t : WordsSyntax) → IsWords xs t → IsWordsText r xs t
-words_are r xs t (words {xs = ys} {es = es} a b c d n head one word number few entries) = of_parts r xs t (record {
-  first = a;
-  one = b;
-  second = c;
-  digits = d;
-  number = n;
-  tail = ys;
-  entries = es;
-  split = refl;
-  is_first = head;
-  is_one = one;
-  is_second = word;
-  is_number = number;
-  some = few;
-  derived = entries;
-  is = refl;
-})
+words_are r xs t (words a b c d n head one word number few entries) = of_parts _ r a b c d n head one word number few entries
 
 pub words_exact : (room : ℕ) → Exact (λ r. IsWords) Never room words_text
 unfolding words_text
 words_exact room =
     exact_as is_words words_are (λ x e. e)
-    (headed_exact (has_word (codes "tslwords") refl) (has_word (codes "bits") refl) entries_begin entries_exact words_made room)
+    (headed_exact (has_word (codes "tslwords") refl) (has_word (codes "bits") refl) entries_form words_made room)

@@ -1,7 +1,7 @@
 -- What stands at the places of names is what the entries give for them.
-use Rattle.std.proofs.Common.{◌≡◌, ◌∙◌, ℕ, suc, ◌+◌, ◌<◌, Bool, true, false, cond, List, [], ◌∷◌, ◌++◌, length, map}
-use Rattle.std.proofs.Common.{Option, Some, None, refl, sym, ap, subst, arith}
-use Rattle.std.specs.Prelude.{option_map, option_and_then, slice_get, is_some, All}
+use Rattle.std.proofs.Common.{◌≡◌, ◌∙◌, ℕ, suc, ◌+◌, ◌<◌, Bool, cond, List, [], ◌∷◌, ◌++◌, length, map}
+use Rattle.std.proofs.Common.{Option, Some, refl, sym, ap, arith}
+use Rattle.std.specs.Prelude.{option_map, option_and_then, is_some, All}
 use Rattle.std.specs.List.{find, AllByRecursion}
 use Rattle.std.proofs.lemmas.Option.{slice_get-map}
 use Rattle.std.proofs.lemmas.List.{map-append}
@@ -10,53 +10,16 @@ use Rattle.sequence.specs.Numbers.{numbers_from}
 use Rattle.sequence.proofs.Numbers.{numbers_at, numbers_more}
 use Rattle.sequence.proofs.Lists.{map_map}
 use Rattle.sequence.proofs.Finds.{found_has}
+use Rattle.sequence.proofs.Each.{each_weaker}
 use Rattle.tsl_terms.specs.Name.{Name}
 use Rattle.tsl_meaning.specs.Interpretation.{Interpretation}
 use Rattle.table_syntax.specs.declared.words.Given.{Given}
-use Rattle.table_syntax.specs.declared.words.WordEntry.{WordEntry as ReadWordEntry}
 use Rattle.table_syntax.specs.Syntax.{WordEntry, WordsSyntax}
-use Rattle.table_syntax.specs.View.{word_entry_view, word_entries_view}
-use Rattle.entry_names.specs.Needed.{needed, is_for}
-use Rattle.entry_names.specs.declared.locating.EntryFault.{EntryFault}
-use Rattle.entry_names.specs.Entries.{Subject, word_subject_of, AreLocated, AreWhole, HasEntryFault}
-use Rattle.entry_names.proofs.Locate.{none_given, place_within, entry_given}
+use Rattle.entry_names.specs.Needed.{needed}
 use Rattle.word_interp.specs.Operations.{table_given, value_given}
-use Rattle.word_interp.specs.Words.{domain_of, subjects_of, given_for, takes_others, no_word, has_other_arity, too_large}
-use Rattle.word_interp.specs.Words.{AreInRange, Gives, HasOtherArity, HasLargeNumber}
+use Rattle.word_interp.specs.Words.{domain_of, given_for, takes_others, no_word, has_other_arity, too_large}
+use Rattle.word_interp.specs.Words.{AreInRange, Gives}
 use Rattle.word_interp.specs.internal.Applied.{given_at}
-
--- ---- one name by the place of its entry
-
-found_view : {X Y : Type 0} (view : X → Y) (test : Y → Bool) (xs : List X) →
-    find test (map view xs) ≡ option_map view (find (λ x. test (view x)) xs)
-found_view view test [] = refl
-found_view view test (x ∷ xs) = by (test (view x)) (found_view view test xs) where
-  by : (b : Bool) → find test (map view xs) ≡ option_map view (find (λ y. test (view y)) xs) →
-      cond b (Some (view x)) (find test (map view xs)) ≡ option_map view (cond b (Some x) (find (λ y. test (view y)) xs))
-  by true h = refl
-  by false h = h
-
-module _ (names : List Name) (entries : List ReadWordEntry) (places : List (Option ℕ))
-    (l : AreLocated names (map (λ e. word_subject_of (word_entry_view e)) entries) places) (id : ℕ) (within : id < length names) where
-  given_is : given_for names (word_entries_view entries) id
-      ≡ option_map (λ (e : WordEntry). e.given) (option_map word_entry_view (find (λ e. is_for names id (word_entry_view e).name) entries))
-  given_is = ap (option_map (λ (e : WordEntry). e.given)) (found_view word_entry_view (λ e. is_for names id e.name) entries)
-
-  pub nothing_given : slice_get places id ≡ Some None → given_for names (word_entries_view entries) id ≡ None
-  nothing_given there =
-      given_is
-      ∙ ap (λ o. option_map (λ (e : WordEntry). e.given) (option_map word_entry_view o))
-      (none_given (λ e. word_subject_of (word_entry_view e)) names entries places l id within there)
-
-  pub inside : (place : ℕ) → slice_get places id ≡ Some (Some place) → place < length entries
-  inside = place_within (λ e. word_subject_of (word_entry_view e)) names entries places l id within
-
-  pub something_given : (place : ℕ) (e : ReadWordEntry) → slice_get places id ≡ Some (Some place) → slice_get entries place ≡ Some e →
-      given_for names (word_entries_view entries) id ≡ Some e.given
-  something_given place e there at =
-      given_is
-      ∙ ap (λ o. option_map (λ (e : WordEntry). e.given) (option_map word_entry_view o))
-      (entry_given (λ d. word_subject_of (word_entry_view d)) names entries places l id within place e there at)
 
 -- ---- all names
 
@@ -75,10 +38,6 @@ map_each : {X Y : Type 0} (f g : X → Y) (xs : List X) → AllByRecursion (λ x
 map_each f g [] each = refl
 map_each f g (x ∷ xs) each = λ i. each.0 i ∷ map_each f g xs each.1 i
 
-each_so : {X : Type 0} (P Q : X → Type 0) → ((x : X) → P x → Q x) → (xs : List X) → AllByRecursion P xs → AllByRecursion Q xs
-each_so P Q f [] each = tt
-each_so P Q f (x ∷ xs) each = (f x each.0, each_so P Q f xs each.1)
-
 module _ (names : List Name) (entries : List WordEntry) (given : List (Option Given))
     (is : given ≡ map (given_for names entries) (numbers_from 0 (length names))) where
   given_here : (id : ℕ) → id < length names → given_at given id ≡ given_for names entries id
@@ -93,7 +52,7 @@ module _ (names : List Name) (entries : List WordEntry) (given : List (Option Gi
       find (λ id. test id (given_at given id)) ids ≡ find (λ id. test id (given_for names entries id)) ids
   same_search test ids within =
       find_agree (λ id. test id (given_at given id)) (λ id. test id (given_for names entries id)) ids
-      (each_so (λ id. id < length names) (λ id. test id (given_at given id) ≡ test id (given_for names entries id))
+      (each_weaker (λ id. id < length names) (λ id. test id (given_at given id) ≡ test id (given_for names entries id))
       (λ id inside. ap (test id) (given_here id inside)) ids (recursion_from_All (λ id. id < length names) ids within))
 
   pub same_tables : (domain : ℕ) → map (table_given domain) given
@@ -105,7 +64,7 @@ module _ (names : List Name) (entries : List WordEntry) (given : List (Option Gi
       map (λ s. value_given domain (given_at given s)) cells ≡ map (λ s. value_given domain (given_for names entries s)) cells
   same_values domain cells within =
       map_each (λ s. value_given domain (given_at given s)) (λ s. value_given domain (given_for names entries s)) cells
-      (each_so (λ id. id < length names) (λ s. value_given domain (given_at given s) ≡ value_given domain (given_for names entries s))
+      (each_weaker (λ id. id < length names) (λ s. value_given domain (given_at given s) ≡ value_given domain (given_for names entries s))
       (λ s inside. ap (value_given domain) (given_here s inside)) cells (recursion_from_All (λ s. s < length names) cells within))
 
 -- ---- what the checks say
@@ -132,37 +91,7 @@ module _ (names : List Name) (cells : List ℕ) (text : WordsSyntax) (domain : �
       (recursion_from_All (λ i. i < length names) ids within) (sym first) in
       ap (no_word domain) (given_here names text.entries given is id inside) ∙ ap (λ m. no_word m (given_for names text.entries id)) d
 
-module _ (names : List Name) (cells : List ℕ) (text : WordsSyntax) (whole : AreWhole names (needed names cells) (subjects_of text)) where
-  pub are_in_range : find (has_other_arity names text) (needed names cells) ≡ None →
-      find (λ id. is_some (too_large names text id)) (needed names cells) ≡ None → AreInRange names cells text
-  are_in_range fitting in_range = record { so_far = record { so_far = whole; fitting = fitting }; in_range = in_range }
-
-  pub other_arity : (id : ℕ) → find (has_other_arity names text) (needed names cells) ≡ Some id → HasOtherArity names cells text id
-  other_arity id first = record { so_far = whole; first = first }
-
-  pub large_number : (id value : ℕ) → find (has_other_arity names text) (needed names cells) ≡ None →
-      find (λ i. is_some (too_large names text i)) (needed names cells) ≡ Some id → too_large names text id ≡ Some value →
-      HasLargeNumber names cells text id value
-  large_number id value fitting first number = record { so_far = record { so_far = whole; fitting = fitting }; first = first; number = number }
-
 -- ---- what the parts are made of
-
-pub subjects_are : (es lent : List ReadWordEntry) → lent ≡ es →
-    map (λ e. word_subject_of (word_entry_view e)) lent ≡ map word_subject_of (word_entries_view es)
-subjects_are es lent same =
-    ap (map (λ e. word_subject_of (word_entry_view e))) same ∙ sym (map_map word_subject_of word_entry_view es)
-
-module _ (names : List Name) (cells : List ℕ) (text : WordsSyntax) (ids : List ℕ) (subjects : List Subject) (a : ids ≡ needed names cells)
-    (b : subjects ≡ subjects_of text) where
-  pub whole_given : AreWhole names ids subjects → AreWhole names (needed names cells) (subjects_of text)
-  whole_given h =
-      subst (λ (xs : List ℕ). AreWhole names xs (subjects_of text)) a (subst (λ (ss : List Subject). AreWhole names ids ss) b h)
-
-  pub fault_given : (fault : EntryFault) → HasEntryFault names ids subjects fault →
-      HasEntryFault names (needed names cells) (subjects_of text) fault
-  fault_given fault h =
-      subst (λ (xs : List ℕ). HasEntryFault names xs (subjects_of text) fault) a
-      (subst (λ (ss : List Subject). HasEntryFault names ids ss fault) b h)
 
 pub gives : (names : List Name) (cells : List ℕ) (text : WordsSyntax) (interpretation : Interpretation) (domain : ℕ)
     (given : List (Option Given)) (kept : List ℕ) → domain ≡ domain_of text →

@@ -1,28 +1,24 @@
 -- What entries without a cause of refusal give is an interpretation.
-use Rattle.std.proofs.Common.{◌≡◌, ◌∙◌, ℕ, ◌+◌, ◌-◌, ◌*◌, ◌%◌, ◌<◌, ◌≤◌, ◌==◌, ◌^◌, true, false, not, ◌&&◌, Bool, List, [], ◌∷◌}
-use Rattle.std.proofs.Common.{length, map, Option, Some, None, refl, sym, ap, subst, arith, codes}
-use Rattle.std.specs.Prelude.{option_map, slice_get, filter, flat_map, nat_lt, nat_le, All, IsTrue}
-use Rattle.std.specs.Option.{option_map_or}
-use Rattle.std.specs.List.{find, list_all, AllByRecursion}
-use Rattle.std.specs.Str.{bytes_eq}
+use Rattle.std.proofs.Common.{◌≡◌, ◌∙◌, ℕ, ◌+◌, ◌-◌, ◌*◌, ◌%◌, ◌<◌, ◌≤◌, ◌==◌, ◌^◌, true, false, not, Bool, List, [], ◌∷◌}
+use Rattle.std.proofs.Common.{length, map, Option, Some, None, sym, ap, subst, arith}
+use Rattle.std.specs.Prelude.{option_map, slice_get, flat_map, nat_lt, nat_le, All}
+use Rattle.std.specs.List.{find, AllByRecursion}
 use Rattle.std.specs.Int.Bits.{and_lt}
 use Rattle.std.proofs.Math.Pow.{ones_lt}
 use Rattle.std.proofs.Math.Nat.{mod-lt}
 use Rattle.std.proofs.lemmas.Nat.{or_lt, xor_lt, pow_pos}
-use Rattle.std.proofs.lemmas.Bool.{and_parts, and_from, eqb-true, not-false}
+use Rattle.std.proofs.lemmas.Bool.{and_parts, eqb-true, not-false}
 use Rattle.std.proofs.lemmas.List.{length-map}
 use Rattle.std.proofs.lemmas.Option.{slice_get-map, slice_get_within}
 use Rattle.std.proofs.lemmas.List.Elements.{All-from_recursion}
 use Rattle.sequence.specs.Numbers.{is_among, numbers_from}
 use Rattle.sequence.specs.Options.{passes}
-use Rattle.sequence.proofs.Each.{each_joined, each_at}
+use Rattle.sequence.proofs.Each.{each_joined, each_at, each_unmapped}
 use Rattle.sequence.proofs.Finds.{each_fails, found_has, found_passes}
-use Rattle.sequence.proofs.Places.{slice_get_grown}
 use Rattle.sequence.proofs.Numbers.{numbers_at, numbers_below}
-use Rattle.sequence.proofs.Passes.{filter_has, each_from_list_all, within_from_test}
-use Rattle.tsl_terms.specs.declared.names.NameKind.TheVariants.{Signal, Function, Predicate}
-use Rattle.tsl_terms.specs.Name.{Name, is_name, same_kind}
-use Rattle.tsl_terms.specs.Equality.{is_equality, names_equality}
+use Rattle.tsl_terms.specs.declared.names.NameKind.TheVariants.{Function, Predicate}
+use Rattle.tsl_terms.specs.Name.{Name, same_kind}
+use Rattle.tsl_terms.specs.Equality.{is_equality}
 use Rattle.tsl_meaning.specs.Interpretation.{Interpretation, IsInterpretation, IsTable}
 use Rattle.table_syntax.specs.declared.words.Operation.{Operation as WordOperation}
 use Rattle.table_syntax.specs.declared.words.Operation.TheVariants as operation
@@ -31,9 +27,10 @@ use Rattle.table_syntax.specs.declared.words.Test.TheVariants as test
 use Rattle.table_syntax.specs.declared.words.Given.{Given}
 use Rattle.table_syntax.specs.declared.words.Given.TheVariants.{Operation, Test, Value}
 use Rattle.table_syntax.specs.Syntax.{WordEntry, WordsSyntax, has_table, kind_of}
-use Rattle.entry_names.specs.Needed.{is_symbol_number, needed, is_for, number_for}
+use Rattle.entry_names.specs.Needed.{needed, is_for, number_for}
 use Rattle.entry_names.specs.Entries.{word_subject_of, is_needed_as, is_known, has_no_entry}
 use Rattle.entry_names.proofs.Locate.{found_entry}
+use Rattle.entry_names.proofs.NeededNames.{symbol_needed, symbol_is, no_function}
 use Rattle.word_interp.specs.Operations.{WordFunction, constant, unary, binary, entries_of, operation_of, test_of, entry_for}
 use Rattle.word_interp.specs.Operations.{arity_given, table_given, value_given}
 use Rattle.word_interp.specs.Words.{domain_of, subjects_of, given_for, takes_others, has_other_arity, AreInRange, Gives}
@@ -97,30 +94,11 @@ truths_below domain test.Zero = λ x a. truth_below (x == 0)
 truths_below domain test.Odd = λ x a. truth_below (x % 2 == 1)
 truths_below domain test.Nonzero = λ x a. truth_below (not (x == 0))
 
--- ---- what is known of a needed name
-
--- the cells are names
-pub cells_within : (names : List Name) (cells : List ℕ) → IsTrue (list_all (λ s. is_name names s Signal 0) cells) →
-    All (λ s. s < length names) cells
-cells_within names cells h = All-from_recursion (λ s. s < length names) cells
-    (by cells (each_from_list_all (λ s. is_name names s Signal 0) cells h)) where
-      by : (xs : List ℕ) → AllByRecursion (λ s. is_name names s Signal 0 ≡ true) xs → AllByRecursion (λ s. s < length names) xs
-      by [] each = tt
-      by (x ∷ xs) each = (within_from_test names x (λ n. same_kind n.kind Signal && (n.arity == 0)) each.0, by xs each.1)
-
 -- ---- the entry of a needed name
-
-unmapped : {X Y : Type 0} (f : X → Y) (P : Y → Type 0) (xs : List X) → AllByRecursion P (map f xs) → AllByRecursion (λ x. P (f x)) xs
-unmapped f P [] each = tt
-unmapped f P (x ∷ xs) each = (each.0, unmapped f P xs each.1)
 
 passes_is : (id : ℕ) (o : Option ℕ) → passes (λ n. n == id) o ≡ true → o ≡ Some id
 passes_is id None h = cc
 passes_is id (Some n) h = ap (λ m. Some m) (eqb-true n id h)
-
-and_false : (b : Bool) → (b && false) ≡ false
-and_false true = refl
-and_false false = refl
 
 -- what is given for a name: something of its kind, which takes as many arguments
 pub record IsGiven (names : List Name) (given : WordsSyntax) (id : ℕ) (name : Name) : Type 0 where
@@ -150,7 +128,7 @@ module _ (names : List Name) (cells : List ℕ) (given : WordsSyntax) (h : AreIn
     known =
         found_has (λ d. is_for names id d.name) (λ d. not (is_known names (needed names cells) (word_subject_of d)) ≡ false) given.entries
         entry.0
-        (unmapped word_subject_of (λ e. not (is_known names (needed names cells) e) ≡ false) given.entries
+        (each_unmapped (λ e. not (is_known names (needed names cells) e) ≡ false) word_subject_of given.entries
         (each_fails (λ e. not (is_known names (needed names cells) e)) (subjects_of given) h.so_far.so_far.so_far.known))
         entry.1
 
@@ -174,23 +152,10 @@ module _ (names : List Name) (cells : List ℕ) (given : WordsSyntax) (h : AreIn
   symbol_given : (id : ℕ) (name : Name) → slice_get names id ≡ Some name → has_table name.kind ≡ true → is_equality names id ≡ false →
       IsGiven names given id name
   symbol_given id name there kind other =
-      let inside : id < length names = slice_get_within names id name there in
-      let symbol : is_symbol_number names id ≡ true =
-      and_from (passes (λ n. has_table n.kind) (slice_get names id)) (not (is_equality names id))
-      (ap (passes (λ n. has_table n.kind)) there ∙ kind) (ap not other) in
-      let place = filter_has (is_symbol_number names) (numbers_from 0 (length names)) id id
-      (numbers_at 0 (length names) id inside ∙ ap (λ n. Some n) (omega arith)) symbol in
-      has_given id place.0 name
-      (slice_get_grown (filter (is_symbol_number names) (numbers_from 0 (length names))) cells place.0 id place.1) there
+      let place = symbol_needed names cells id (symbol_is names id name there kind other) in
+      has_given id place.0 name place.1 there
 
 -- ---- the tables
-
-no_function : (names : List Name) (id : ℕ) (name : Name) → slice_get names id ≡ Some name → name.kind ≡ Function →
-    is_equality names id ≡ false
-no_function names id name there kind =
-    ap (λ o. option_map_or names_equality o false) there
-    ∙ ap (λ k. bytes_eq (codes "eq") name.text && (same_kind k Predicate && (name.arity == 2))) kind
-    ∙ and_false (bytes_eq (codes "eq") name.text)
 
 function_table : (bits arity : ℕ) (g : Given) → same_kind Function (kind_of g) ≡ true → arity_given (2 ^ bits) g ≡ arity →
     IsTable (2 ^ bits) arity (2 ^ bits) (table_given (2 ^ bits) (Some g))

@@ -5,6 +5,5 @@ mod Facts
 mod Refusals
 mod OneReading
 mod Examples
-mod Stages
 mod OneCause
 pub mod Reduced

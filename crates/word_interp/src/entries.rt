@@ -25,7 +25,7 @@ ghost use Rattle.word_interp.specs.internal.Applied.{given_at};
 use crate::operations::{arity_given, given_at, number_in};
 use crate::words::Words;
 use crate::{MOST_BITS, WordError};
-use entry_names::{entry_places, needed, place_of};
+use entry_names::{entry_for, entry_places, needed};
 use sequence::NoMemory;
 use std::alloc::Global;
 use table_syntax::{Given, WordEntry, WordsText};
@@ -42,12 +42,9 @@ fn given_for(
     requires within { id < length names.now }
     ensures { result ≡ given_for names.now (word_entries_view entries.now) id }
 {
-    match place_of(places, id) {
+    match entry_for(names, entries, places, id) {
         None => None,
-        Some(place) => match entries.get(place) {
-            None => None,
-            Some(entry) => Some(entry.given),
-        },
+        Some(entry) => Some(entry.given),
     }
 }
 

@@ -6,7 +6,9 @@ use Rattle.tsl_meaning.specs.Interpretation.{rows_of}
 use Rattle.table_syntax.specs.View.{inputs_view}
 use Rattle.table_interp.proofs.Loops.{are_loop}
 use Rattle.table_syntax.proofs.Readings.{has_cycle}
-use Rattle.table_interp.proofs.Refusals.{inputs_refused, input_form_passed, row_cause}
+use Rattle.sequence.proofs.Results.{handed_on}
+use Rattle.table_interp.proofs.OneInputCause.{inputs_refused}
+use Rattle.table_interp.proofs.Refusals.{input_form_cause, row_cause}
 use Rattle.table_interp.proofs.read_inputs.Goals as goal
 
 pub rows_from-requires-clause-some : goal.rows_from-requires-clause-some
@@ -19,8 +21,8 @@ rows_from-requires-clause-some c =
 
 pub returns-in_err-given-clause-refused : goal.returns-in_err-given-clause-refused
 returns-in_err-given-clause-refused c =
-    input_form_passed c.args.text.now c.args.names.now c.args.inputs.now c.args.domain _ _ c.from_residual.ensures.1
-    c.in_err-given.ensures.fault
+    handed_on _ _ _ c.from_residual.ensures.1 (inputs_refused c.args.text.now c.args.names.now c.args.inputs.now c.args.domain _
+    (input_form_cause c.args.text.now c.args.names.now c.args.inputs.now c.args.domain _ c.in_err-given.ensures.fault))
 
 pub returns-clause-rows : goal.returns-clause-rows
 returns-clause-rows c =

@@ -3,14 +3,18 @@ use Rattle.std.proofs.lemmas.Result.{IfOk-weaker}
 use Rattle.std.proofs.lemmas.Result.{IfErr-weaker}
 use Rattle.table_interp.specs.declared.TableError.TheVariants.{Domain}
 use Rattle.table_syntax.specs.View.{tables_view}
-use Rattle.table_interp.proofs.Facts.{cells_within, interprets}
+use Rattle.table_interp.proofs.Facts.{interprets}
+use Rattle.entry_names.proofs.NeededNames.{cells_within}
 use Rattle.table_syntax.proofs.Readings.{has_value}
-use Rattle.table_interp.proofs.Refusals.{tables_refused, form_passed, entry_cause}
+use Rattle.sequence.proofs.Results.{handed_on}
+use Rattle.table_interp.proofs.OneTableCause.{tables_refused}
+use Rattle.table_interp.proofs.Refusals.{form_cause, entry_cause}
 use Rattle.table_interp.proofs.read_tables.Goals as goal
 
 pub returns-in_err-given-clause-refused : goal.returns-in_err-given-clause-refused
 returns-in_err-given-clause-refused c =
-    form_passed c.args.text.now c.args.names.now c.args.cells.now _ _ c.from_residual.ensures.1 c.in_err-given.ensures.fault
+    handed_on _ _ _ c.from_residual.ensures.1 (tables_refused c.args.text.now c.args.names.now c.args.cells.now _
+    (form_cause c.args.text.now c.args.names.now c.args.cells.now _ c.in_err-given.ensures.fault))
 
 pub returns-then-given-from-clause-refused : goal.returns-then-given-from-clause-refused
 returns-then-given-from-clause-refused c =

@@ -1,17 +1,13 @@
 -- Internal: only private functions of this crate use these words.
--- Faults of the form and of entries as errors, and which name must not stand in a text.
-use Rattle.std.specs.Prelude.{◌≡◌, Option, IsSomeAnd}
+-- Faults of the form and of entries as errors.
 use Rattle.table_syntax.specs.declared.forms.TextFault.{TextFault}
 use Rattle.table_syntax.specs.declared.forms.TextFault.TheVariants as text
 use Rattle.entry_names.specs.declared.locating.EntryFault.{EntryFault}
 use Rattle.entry_names.specs.declared.locating.EntryFault.TheVariants as entry
-use Rattle.table_interp.specs.declared.naming.NameFault.{NameFault}
-use Rattle.table_interp.specs.declared.naming.NameFault.TheVariants as naming
 use Rattle.table_interp.specs.declared.TableError.{TableError}
 use Rattle.table_interp.specs.declared.TableError.TheVariants as table
 use Rattle.table_interp.specs.declared.InputError.{InputError}
 use Rattle.table_interp.specs.declared.InputError.TheVariants as input
-use Rattle.table_syntax.specs.Syntax.{TextToken}
 
 abbrev pub table_error : TextFault → TableError
 table_error (text.Byte at) = table.Byte at
@@ -31,7 +27,8 @@ input_error (text.OpenComment at) = input.OpenComment at
 input_error (text.Form at) = input.Form at
 input_error text.NoMemory = input.NoMemory
 
--- the first name that must not stand in the text has the fault's token
-abbrev pub HasUnknown : Option TextToken → NameFault → Type 0
-HasUnknown found (naming.Unknown token) = IsSomeAnd found (λ x. x.token ≡ token)
-HasUnknown found naming.NoMemory = Unit {0}
+abbrev pub column_error : EntryFault → InputError
+column_error (entry.Unknown start end) = input.Unknown start end
+column_error (entry.Twice start end) = input.Twice start end
+column_error (entry.Missing id) = input.Missing id
+column_error entry.NoMemory = input.NoMemory

@@ -3,13 +3,16 @@ use Rattle.std.proofs.lemmas.Result.{IfOk-weaker, IfErr-weaker}
 use Rattle.table_syntax.specs.View.{words_view}
 use Rattle.word_interp.specs.declared.WordError.TheVariants.{Width}
 use Rattle.word_interp.proofs.Facts.{interprets}
-use Rattle.word_interp.proofs.Refusals.{words_refused, form_refused, entry_cause}
+use Rattle.sequence.proofs.Results.{handed_on}
+use Rattle.word_interp.proofs.OneCause.{words_refused}
+use Rattle.word_interp.proofs.Refusals.{form_cause, entry_cause}
 use Rattle.table_syntax.proofs.Readings.{has_bit}
 use Rattle.word_interp.proofs.read_words.Goals as goal
 
 pub returns-in_err-given-clause-refused : goal.returns-in_err-given-clause-refused
 returns-in_err-given-clause-refused c =
-    form_refused c.args.text.now c.args.names.now c.args.cells.now _ _ c.from_residual.ensures.1 c.in_err-given.ensures.fault
+    handed_on _ _ _ c.from_residual.ensures.1 (words_refused c.args.text.now c.args.names.now c.args.cells.now _
+    (form_cause c.args.text.now c.args.names.now c.args.cells.now _ c.in_err-given.ensures.fault))
 
 pub returns-then-given-from-clause-refused : goal.returns-then-given-from-clause-refused
 returns-then-given-from-clause-refused c =

@@ -1,18 +1,21 @@
-use Rattle.table_syntax.specs.View.{tables_view}
-use Rattle.table_interp.proofs.GivenNumbers.{subjects_are, entry_fault_passed}
+use Rattle.table_syntax.specs.View.{entry_view, tables_view}
+use Rattle.entry_names.specs.Entries.{subject_of}
+use Rattle.entry_names.proofs.Locate.{subjects_are}
+use Rattle.sequence.proofs.Results.{handed_on}
+use Rattle.table_interp.proofs.Refusals.{fault_cause}
 use Rattle.table_interp.proofs.entries.located_entries.Goals as goal
 
 pub returns-in_err-places-clause-cause : goal.returns-in_err-places-clause-cause
 returns-in_err-places-clause-cause c =
-    entry_fault_passed c.args.names.now c.args.cells.now c.args.ids.now (tables_view c.args.given.now) _ _ _ c.requires.needed
-    (subjects_are c.as_slice.result.now c.args.given.now.entries.items c.as_slice.ensures.value) c.from_residual.ensures.1
-    c.in_err-places.ensures.fault
+    handed_on _ _ _ c.from_residual.ensures.1 (fault_cause c.args.names.now c.args.cells.now (tables_view c.args.given.now) _
+    (rw (c.requires.needed, subjects_are subject_of entry_view c.as_slice.result.now c.args.given.now.entries.items c.as_slice.ensures.value)
+    at c.in_err-places.ensures.fault))
 
 pub returns-clause-whole : goal.returns-clause-whole
 returns-clause-whole c =
-    rw (c.requires.needed, subjects_are c.as_slice.result.now c.args.given.now.entries.items c.as_slice.ensures.value)
+    rw (c.requires.needed, subjects_are subject_of entry_view c.as_slice.result.now c.args.given.now.entries.items c.as_slice.ensures.value)
     at c.in_ok-places.ensures.whole
 
 pub returns-clause-located : goal.returns-clause-located
 returns-clause-located c =
-    rw (subjects_are c.as_slice.result.now c.args.given.now.entries.items c.as_slice.ensures.value) at c.in_ok-places.ensures.located
+    rw (subjects_are subject_of entry_view c.as_slice.result.now c.args.given.now.entries.items c.as_slice.ensures.value) at c.in_ok-places.ensures.located

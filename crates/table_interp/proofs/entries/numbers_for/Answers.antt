@@ -1,20 +1,23 @@
-use Rattle.std.proofs.Common.{Some, sym, ap, ◌∙◌, arith}
-use Rattle.table_interp.proofs.GivenNumbers.{no_numbers, entry_there, lent_numbers}
+use Rattle.std.proofs.Common.{List, Some, ap, subst, ◌∙◌}
+use Rattle.sequence.proofs.Lists.{map_map}
+use Rattle.table_syntax.specs.View.{entry_view}
+use Rattle.entry_names.specs.Needed.{is_for}
+use Rattle.entry_names.specs.Entries.{Subject, subject_of, AreLocated}
+use Rattle.entry_names.proofs.Locate.{seen_entry}
 use Rattle.table_interp.proofs.entries.numbers_for.Goals as goal
+
+pub entry_for-requires-clause-located : goal.entry_for-requires-clause-located
+entry_for-requires-clause-located c =
+    subst (λ (ss : List Subject). AreLocated c.args.given.now.names.now ss c.args.given.now.places.now)
+    (map_map subject_of entry_view c.args.given.now.entries.now) c.requires.located
 
 pub returns-in-None : goal.returns-in-None
 returns-in-None c =
-    sym (no_numbers c.args.given.now.names.now c.args.given.now.entries.now c.args.given.now.places.now c.requires.located c.args.id
-    c.requires.within c.in-None.ensures)
+    seen_entry entry_view (λ e. is_for c.args.given.now.names.now c.args.id e.name) (λ e. e.numbers) c.args.given.now.entries.now _
+    c.in-None.ensures
 
-pub returns-in-None-get : goal.returns-in-None-get
-returns-in-None-get c =
-    let few = entry_there c.args.given.now.names.now c.args.given.now.entries.now c.args.given.now.places.now c.requires.located
-    c.args.id c.requires.within c.in-Some.place c.in-Some.ensures in
-    absurd (omega (arith, few, c.in-None-get.ensures.lookup.3))
-
-pub returns-in-Some-get : goal.returns-in-Some-get
-returns-in-Some-get c =
+pub returns-in-Some : goal.returns-in-Some
+returns-in-Some c =
     ap (λ ns. Some ns) c.as_slice.ensures.value
-    ∙ sym (lent_numbers c.args.given.now.names.now c.args.given.now.entries.now c.args.given.now.places.now c.requires.located c.args.id
-    c.requires.within c.in-Some.place c.in-Some-get.entry.now c.in-Some.ensures c.in-Some-get.ensures.lookup.1)
+    ∙ seen_entry entry_view (λ e. is_for c.args.given.now.names.now c.args.id e.name) (λ e. e.numbers) c.args.given.now.entries.now _
+    c.in-Some.ensures

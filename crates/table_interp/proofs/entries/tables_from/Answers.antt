@@ -3,7 +3,8 @@ use Rattle.std.proofs.lemmas.List.Elements.{All-from_recursion}
 use Rattle.table_interp.specs.Tables.{numbers_for}
 use Rattle.table_interp.specs.internal.Located.{HasOneSmall}
 use Rattle.table_syntax.specs.View.{entries_view}
-use Rattle.table_interp.proofs.Facts.{cells_within, small_table, cells_one, paired}
+use Rattle.table_interp.proofs.Facts.{small_table, cells_one, paired}
+use Rattle.entry_names.proofs.NeededNames.{cells_within}
 use Rattle.table_interp.proofs.entries.tables_from.Goals as goal
 
 pub needed-requires : goal.needed-requires

@@ -1,6 +1,6 @@
 use Rattle.std.proofs.Common.{◌<◌, ◌^◌, map, Some, ap, ◌∙◌, arith}
 use Rattle.std.specs.Prelude.{All}
-use Rattle.table_interp.proofs.Columns.{of_row, row_pushed}
+use Rattle.table_interp.proofs.Rows.{of_row, row_pushed}
 use Rattle.table_interp.proofs.inputs.all_ordered.Goals as goal
 
 pub ordered-requires : goal.ordered-requires

@@ -3,7 +3,7 @@ use Rattle.std.specs.Prelude.{is_some}
 use Rattle.std.specs.List.{find}
 use Rattle.table_interp.specs.Inputs.{is_no_value, all_rows}
 use Rattle.table_syntax.specs.View.{inputs_view}
-use Rattle.table_interp.proofs.Columns.{same_row}
+use Rattle.table_interp.proofs.Rows.{same_row}
 use Rattle.table_interp.proofs.inputs.check_values.Goals as goal
 
 pub returns-in-Some-first_from-clause-cause : goal.returns-in-Some-first_from-clause-cause

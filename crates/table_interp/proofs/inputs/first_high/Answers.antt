@@ -2,7 +2,7 @@ use Rattle.std.proofs.Common.{◌≡◌, sym, ap, ◌∙◌, arith}
 use Rattle.std.specs.Prelude.{is_some}
 use Rattle.std.specs.List.{find}
 use Rattle.table_interp.specs.Inputs.{is_no_value}
-use Rattle.table_interp.proofs.Columns.{none_at_first, none_more, none_left, first_at}
+use Rattle.table_interp.proofs.Rows.{none_at_first, none_more, none_left, first_at}
 use Rattle.table_interp.proofs.inputs.first_high.Goals as goal
 
 pub loop-place-init : goal.loop-place-init

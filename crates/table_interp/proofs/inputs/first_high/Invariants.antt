@@ -1,7 +1,7 @@
 use Rattle.std.specs.Prelude.{is_some}
 use Rattle.std.specs.List.{find}
 use Rattle.table_interp.specs.Inputs.{is_no_value}
-use Rattle.table_interp.proofs.Columns.{NoneSoFar}
+use Rattle.table_interp.proofs.Rows.{NoneSoFar}
 use Rattle.table_interp.proofs.inputs.first_high.Given as goal
 
 abbrev pub invariant-loop-place : goal.invariant-loop-place

@@ -1,6 +1,6 @@
 use Rattle.std.proofs.Common.{sym, ◌∙◌}
 use Rattle.table_interp.specs.Inputs.{has_other_width}
-use Rattle.table_interp.proofs.Columns.{rows_right, rows_neither}
+use Rattle.table_interp.proofs.Rows.{rows_right, rows_neither}
 use Rattle.table_interp.proofs.inputs.first_of_other_width.Goals as goal
 
 pub returns-in-Some-first_wide : goal.returns-in-Some-first_wide

@@ -1,6 +1,6 @@
 use Rattle.std.proofs.Common.{sym, ap, ◌∙◌, arith}
 use Rattle.table_interp.specs.Inputs.{has_other_width}
-use Rattle.table_interp.proofs.Columns.{none_at_first, none_more, none_left, first_at}
+use Rattle.table_interp.proofs.Rows.{none_at_first, none_more, none_left, first_at}
 use Rattle.table_interp.proofs.inputs.first_wide.Goals as goal
 
 pub loop-place-init : goal.loop-place-init

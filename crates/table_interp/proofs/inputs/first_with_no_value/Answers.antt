@@ -2,7 +2,7 @@ use Rattle.std.proofs.Common.{sym, ◌∙◌}
 use Rattle.std.specs.Prelude.{is_some}
 use Rattle.std.specs.List.{find}
 use Rattle.table_interp.specs.Inputs.{is_no_value}
-use Rattle.table_interp.proofs.Columns.{rows_right, rows_neither}
+use Rattle.table_interp.proofs.Rows.{rows_right, rows_neither}
 use Rattle.table_interp.proofs.inputs.first_with_no_value.Goals as goal
 
 pub returns-in-Some-first_high : goal.returns-in-Some-first_high

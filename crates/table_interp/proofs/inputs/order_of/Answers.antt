@@ -1,33 +1,25 @@
-use Rattle.std.proofs.Common.{◌≡◌, ◌<◌, true, Some, length, get_or, arith}
-use Rattle.std.specs.Prelude.{slice_get}
-use Rattle.std.specs.List.{list_any}
+use Rattle.std.proofs.Common.{◌≡◌, true, Some, get_or, sym, ap, ◌∙◌, arith}
+use Rattle.std.specs.Prelude.{slice_get, is_some, IsSomeAnd}
 use Rattle.std.proofs.lemmas.List.Elements.{All-get_or}
 use Rattle.sequence.proofs.Lists.{alike_push}
-use Rattle.entry_names.specs.Needed.{is_for}
-use Rattle.table_syntax.specs.View.{text_tokens_view}
-use Rattle.table_interp.proofs.Columns.{place_stands, place_there}
+use Rattle.table_interp.proofs.Columns.{slot_within}
 use Rattle.table_interp.proofs.inputs.order_of.Goals as goal
+
+pub place_of-requires : goal.place_of-requires
+place_of-requires c =
+    slot_within c.args.places.now (get_or c.args.inputs.now c.loop-id.id-index 0)
+    (All-get_or (λ s. IsSomeAnd (slice_get c.args.places.now s) (λ slot. is_some slot ≡ true)) c.args.inputs.now c.loop-id.id-index 0
+    (omega (arith, c.loop-id-test.true)) c.requires)
 
 pub unwrap-requires : goal.unwrap-requires
 unwrap-requires c =
-    let within : c.loop-id.id-index < length c.args.inputs.now = omega (arith, c.loop-id-test.true) in
-    place_there c.args.columns.now.names.now (get_or c.args.inputs.now c.loop-id.id-index 0)
-    (text_tokens_view c.args.columns.now.terminals.now) c.args.columns.now.numbers.now c.args.columns.now.places.now c.place_of.result
-    c.requires.columns
-    (All-get_or (λ id. id < length c.args.columns.now.names.now) c.args.inputs.now c.loop-id.id-index 0 within c.requires.within)
-    c.place_of.ensures
-    (All-get_or (λ id. list_any (is_for c.args.columns.now.names.now id) (text_tokens_view c.args.columns.now.terminals.now) ≡ true)
-    c.args.inputs.now c.loop-id.id-index 0 within c.requires.whole)
+    rw c.place_of.ensures
+    at (All-get_or (λ s. IsSomeAnd (slice_get c.args.places.now s) (λ slot. is_some slot ≡ true)) c.args.inputs.now c.loop-id.id-index 0
+    (omega (arith, c.loop-id-test.true)) c.requires)
 
 pub loop-id-preserved : goal.loop-id-preserved
 loop-id-preserved c =
-    let within : c.loop-id.id-index < length c.args.inputs.now = omega (arith, c.loop-id-test.true) in
     rw c.in_ok-push.ensures.items
-    (alike_push (slice_get c.args.columns.now.numbers.now) (λ s. Some s) c.loop-id.order.items c.unwrap.result c.args.inputs.now
-    c.loop-id.id-index 0 within c.loop-id.invariant
-    (rw c.unwrap.ensures at
-    (place_stands c.args.columns.now.names.now (get_or c.args.inputs.now c.loop-id.id-index 0)
-    (text_tokens_view c.args.columns.now.terminals.now) c.args.columns.now.numbers.now c.args.columns.now.places.now c.place_of.result
-    c.requires.columns
-    (All-get_or (λ id. id < length c.args.columns.now.names.now) c.args.inputs.now c.loop-id.id-index 0 within c.requires.within)
-    c.place_of.ensures)))
+    (alike_push (λ p. Some (Some p)) (slice_get c.args.places.now) c.loop-id.order.items c.unwrap.result c.args.inputs.now
+    c.loop-id.id-index 0 (omega (arith, c.loop-id-test.true)) c.loop-id.invariant
+    (sym (c.place_of.ensures ∙ ap (λ o. Some o) c.unwrap.ensures)))

@@ -1,41 +1,37 @@
-use Rattle.std.proofs.Common.{◌<◌}
+use Rattle.std.proofs.Common.{◌<◌, length, sym, ◌∙◌}
+use Rattle.std.proofs.lemmas.List.Elements.{recursion_from_All}
 use Rattle.sequence.proofs.Results.{handed_on}
 use Rattle.sequence.proofs.Each.{each_left, each_right}
 use Rattle.std.specs.List.{AllByRecursion}
 use Rattle.table_interp.specs.Inputs.{HasRowCause, all_rows}
-use Rattle.table_syntax.specs.View.{inputs_view, numbers_view, text_tokens_view}
-use Rattle.table_interp.proofs.Facts.{cells_within}
-use Rattle.table_interp.proofs.Columns.{all_whole, rows_below, rows_small, rows_given}
+use Rattle.table_syntax.specs.View.{inputs_view, numbers_view}
+use Rattle.entry_names.proofs.NeededNames.{cells_within}
+use Rattle.table_interp.proofs.Columns.{numbers_are, have_places, order_stands}
+use Rattle.table_interp.proofs.Rows.{rows_below, rows_small, rows_given}
 use Rattle.table_interp.proofs.inputs.rows_from.Goals as goal
 
-pub number_columns-requires : goal.number_columns-requires
-number_columns-requires c = record { inputs = cells_within c.args.names.now c.args.inputs.now c.requires.inputs }
-
-pub returns-in_err-found-clause-cause : goal.returns-in_err-found-clause-cause
-returns-in_err-found-clause-cause c =
+pub returns-in_err-places-clause-cause : goal.returns-in_err-places-clause-cause
+returns-in_err-places-clause-cause c =
     handed_on _ _ (HasRowCause c.args.names.now c.args.inputs.now (inputs_view c.args.given.now) c.args.domain) c.from_residual.ensures.1
-    (c.in_err-found.ensures.cause c.args.domain)
-
-pub check_widths-requires-clause-within : goal.check_widths-requires-clause-within
-check_widths-requires-clause-within c = cells_within c.args.names.now c.args.inputs.now c.requires.inputs
+    (c.in_err-places.ensures.cause c.args.domain)
 
 pub returns-in_err-check_widths-clause-cause : goal.returns-in_err-check_widths-clause-cause
 returns-in_err-check_widths-clause-cause c =
     handed_on _ _ (HasRowCause c.args.names.now c.args.inputs.now (inputs_view c.args.given.now) c.args.domain)
     c.from_residual-in_err-check_widths.ensures.1 (c.in_err-check_widths.ensures.cause c.args.domain)
 
-pub order_of-requires-clause-within : goal.order_of-requires-clause-within
-order_of-requires-clause-within c = cells_within c.args.names.now c.args.inputs.now c.requires.inputs
-
-pub order_of-requires-clause-whole : goal.order_of-requires-clause-whole
-order_of-requires-clause-whole c =
+pub order_of-requires : goal.order_of-requires
+order_of-requires c =
     rw c.deref.ensures.value
-    (all_whole c.args.names.now (text_tokens_view c.args.given.now.names.items) c.args.inputs.now
-    c.in_ok-check_widths.ensures.ok.so_far.so_far.whole)
+    (have_places c.args.names.now c.args.inputs.now c.requires.inputs (inputs_view c.args.given.now) c.in_ok-places.places.items
+    c.in_ok-places.ensures.located
+    (recursion_from_All (λ s. s < length c.args.names.now) c.args.inputs.now
+    (cells_within c.args.names.now c.args.inputs.now c.requires.inputs))
+    c.in_ok-places.ensures.whole)
 
 pub all_ordered-requires : goal.all_ordered-requires
 all_ordered-requires c =
-    rw c.deref-5.ensures.value
+    rw c.deref-3.ensures.value
     (rows_small c.args.domain c.ranges.domain.fits (numbers_view c.args.given.now.stem.items)
     (each_left (λ r. AllByRecursion (λ v. v < c.args.domain) r) (numbers_view c.args.given.now.stem.items)
     (numbers_view c.args.given.now.cycle.items)
@@ -43,7 +39,7 @@ all_ordered-requires c =
 
 pub all_ordered-requires-2 : goal.all_ordered-requires-2
 all_ordered-requires-2 c =
-    rw c.deref-7.ensures.value
+    rw c.deref-5.ensures.value
     (rows_small c.args.domain c.ranges.domain.fits (numbers_view c.args.given.now.cycle.items)
     (each_right (λ r. AllByRecursion (λ v. v < c.args.domain) r) (numbers_view c.args.given.now.stem.items)
     (numbers_view c.args.given.now.cycle.items)
@@ -51,20 +47,23 @@ all_ordered-requires-2 c =
 
 pub returns-clause-gives : goal.returns-clause-gives
 returns-clause-gives c =
-    let columns = c.in_ok-found.ensures.numbered in
-    let stands = rw c.deref-2.ensures.value at c.in_ok-order.ensures in
+    let columns = c.in_ok-places.ensures.located in
+    let stands = order_stands columns c.in_ok-order.order.items c.args.inputs.now
+    (recursion_from_All (λ s. s < length c.args.names.now) c.args.inputs.now
+    (cells_within c.args.names.now c.args.inputs.now c.requires.inputs))
+    (rw c.deref.ensures.value at c.in_ok-order.ensures) in
     record {
       in_range = c.in_ok-check_values.ensures.ok;
-      columns = c.in_ok-found.found.numbers.items;
-      columns_are = columns.numbers_are;
+      columns = columns.numbers;
+      columns_are = sym (numbers_are c.args.names.now (inputs_view c.args.given.now)) ∙ columns.numbers_are;
       stem =
           rw c.from_vec.ensures
-          (rows_given c.in_ok-found.found.numbers.items columns.once c.in_ok-order.order.items c.args.inputs.now stands
+          (rows_given columns.numbers columns.once c.in_ok-order.order.items c.args.inputs.now stands
           (numbers_view c.args.given.now.stem.items) c.in_ok-stem.stem.items
-          (rw (c.deref-4.ensures.value, c.deref-5.ensures.value) at c.in_ok-stem.ensures));
+          (rw (c.deref-2.ensures.value, c.deref-3.ensures.value) at c.in_ok-stem.ensures));
       cycle =
           rw c.from_vec-2.ensures
-          (rows_given c.in_ok-found.found.numbers.items columns.once c.in_ok-order.order.items c.args.inputs.now stands
+          (rows_given columns.numbers columns.once c.in_ok-order.order.items c.args.inputs.now stands
           (numbers_view c.args.given.now.cycle.items) c.in_ok-cycle.cycle.items
-          (rw (c.deref-6.ensures.value, c.deref-7.ensures.value) at c.in_ok-cycle.ensures));
+          (rw (c.deref-4.ensures.value, c.deref-5.ensures.value) at c.in_ok-cycle.ensures));
     }

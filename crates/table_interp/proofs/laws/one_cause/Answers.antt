@@ -1,6 +1,5 @@
-use Rattle.table_interp.proofs.Refusals.{tables_refused, inputs_refused}
-use Rattle.table_interp.proofs.OneTableCause.{one_table_cause}
-use Rattle.table_interp.proofs.OneInputCause.{one_input_cause}
+use Rattle.table_interp.proofs.OneTableCause.{one_table_cause, tables_refused}
+use Rattle.table_interp.proofs.OneInputCause.{one_input_cause, inputs_refused}
 use Rattle.table_interp.proofs.laws.one_cause.Goals as goal
 
 pub returns-clause-tables : goal.returns-clause-tables

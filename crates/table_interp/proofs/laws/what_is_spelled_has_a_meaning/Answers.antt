@@ -1,4 +1,5 @@
-use Rattle.table_interp.proofs.Facts.{cells_within, interprets}
+use Rattle.table_interp.proofs.Facts.{interprets}
+use Rattle.entry_names.proofs.NeededNames.{cells_within}
 use Rattle.table_interp.proofs.Loops.{are_loop}
 use Rattle.table_syntax.proofs.Readings.{has_value, has_cycle}
 use Rattle.table_interp.proofs.laws.what_is_spelled_has_a_meaning.Goals as goal

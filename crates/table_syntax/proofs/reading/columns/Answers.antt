@@ -5,13 +5,14 @@ use Rattle.table_syntax.specs.internal.Reading.{name_at, column_member, columns}
 use Rattle.table_syntax.specs.View.{text_token_view, text_tokens_view}
 use Rattle.table_syntax.proofs.Exactness.{columns_shrink}
 use Rattle.token_readers.proofs.MemberLoops.{viewed_more, members_end}
-use Rattle.table_syntax.proofs.ReadLoops.{passed_on, members_fault}
+use Rattle.sequence.proofs.Results.{handed_on}
+use Rattle.table_syntax.proofs.ReadLoops.{members_fault}
 use Rattle.table_syntax.proofs.reading.columns.Goals as goal
 
 pub returns-in_err-column-clause-fault : goal.returns-in_err-column-clause-fault
 unfolding columns
 returns-in_err-column-clause-fault c =
-    passed_on _ _ _ c.from_residual.ensures.1
+    handed_on _ _ _ c.from_residual.ensures.1
     (members_fault column_member columns_shrink (text_tokens_view c.loop-rest.left.terminals.now)
     (text_tokens_view c.loop-rest.columns.items) _ _
     _ c.loop-rest.invariant (ap (option_map (taking name_at)) c.in-Some.ensures.some) c.in_err-column.ensures.fault)

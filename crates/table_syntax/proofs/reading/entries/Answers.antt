@@ -7,13 +7,14 @@ use Rattle.table_syntax.specs.internal.Reading.{entry_of_kind, entry_member, ent
 use Rattle.table_syntax.specs.View.{text_tokens_view, entry_view, entries_view}
 use Rattle.table_syntax.proofs.Exactness.{entries_shrink}
 use Rattle.token_readers.proofs.MemberLoops.{viewed_more, members_end}
-use Rattle.table_syntax.proofs.ReadLoops.{passed_on, members_fault}
+use Rattle.sequence.proofs.Results.{handed_on}
+use Rattle.table_syntax.proofs.ReadLoops.{members_fault}
 use Rattle.table_syntax.proofs.reading.entries.Goals as goal
 
 pub returns-in_err-entry-clause-fault : goal.returns-in_err-entry-clause-fault
 unfolding entries
 returns-in_err-entry-clause-fault c =
-    passed_on _ _ _ c.from_residual.ensures.1
+    handed_on _ _ _ c.from_residual.ensures.1
     (members_fault entry_member entries_shrink (text_tokens_view c.loop-kind.left.terminals.now)
     (entries_view c.loop-kind.entries.items) _ _ _
     c.loop-kind.invariant (ap (option_map (λ (f : NameKind × List TextToken). entry_of_kind f.0 f.1)) c.in-Some.ensures.some) c.in_err-entry.ensures.fault)

@@ -7,13 +7,14 @@ use Rattle.table_syntax.specs.internal.Reading.{word_entry_member, word_entries,
 use Rattle.table_syntax.specs.View.{text_tokens_view, word_entry_view, word_entries_view}
 use Rattle.table_syntax.proofs.WordExactness.{word_entries_shrink}
 use Rattle.token_readers.proofs.MemberLoops.{viewed_more, members_end}
-use Rattle.table_syntax.proofs.ReadLoops.{passed_on, members_fault}
+use Rattle.sequence.proofs.Results.{handed_on}
+use Rattle.table_syntax.proofs.ReadLoops.{members_fault}
 use Rattle.table_syntax.proofs.word_reading.word_entries.Goals as goal
 
 pub returns-in_err-entry-clause-fault : goal.returns-in_err-entry-clause-fault
 unfolding word_entries
 returns-in_err-entry-clause-fault c =
-    passed_on _ _ _ c.from_residual.ensures.1
+    handed_on _ _ _ c.from_residual.ensures.1
     (members_fault word_entry_member word_entries_shrink (text_tokens_view c.loop-kind.left.terminals.now)
     (word_entries_view c.loop-kind.entries.items) _ _ _
     c.loop-kind.invariant (ap (option_map (λ (f : NameKind × List TextToken). word_entry_of_kind f.0 f.1)) c.in-Some.ensures.some) c.in_err-entry.ensures.fault)

@@ -1,10 +1,13 @@
 use Rattle.std.proofs.Common.{length, map, ap, ◌∙◌}
 use Rattle.sequence.specs.Numbers.{numbers_from}
-use Rattle.table_syntax.specs.View.{word_entries_view, words_view}
+use Rattle.table_syntax.specs.View.{word_entry_view, word_entries_view, words_view}
 use Rattle.word_interp.specs.Words.{given_for}
-use Rattle.word_interp.proofs.Checked.{subjects_are, whole_given, fault_given, gives}
-use Rattle.word_interp.proofs.Facts.{cells_within}
-use Rattle.word_interp.proofs.Refusals.{fault_passed}
+use Rattle.word_interp.proofs.Checked.{gives}
+use Rattle.entry_names.specs.Entries.{word_subject_of}
+use Rattle.entry_names.proofs.Locate.{subjects_are}
+use Rattle.entry_names.proofs.NeededNames.{cells_within}
+use Rattle.sequence.proofs.Results.{handed_on}
+use Rattle.word_interp.proofs.Refusals.{fault_cause}
 use Rattle.word_interp.proofs.entries.words_from.Goals as goal
 
 pub needed-requires : goal.needed-requires
@@ -12,16 +15,20 @@ needed-requires c = cells_within c.args.names.now c.args.cells.now c.requires.ce
 
 pub returns-in_err-places-clause-cause : goal.returns-in_err-places-clause-cause
 returns-in_err-places-clause-cause c =
-    fault_passed c.args.names.now c.args.cells.now (words_view c.args.text.now) _ _ c.from_residual-in_err-places.ensures.1
-    (fault_given c.args.names.now c.args.cells.now (words_view c.args.text.now) c.deref.result.now _ (c.deref.ensures.value ∙ c.in_ok-ids.ensures.all)
-    (subjects_are c.args.text.now.entries.items c.deref-2.result.now c.deref-2.ensures.value)
-    _ c.in_err-places.ensures.fault)
+    handed_on _ _ _ c.from_residual-in_err-places.ensures.1 (fault_cause c.args.names.now c.args.cells.now (words_view c.args.text.now) _
+    (rw (
+      c.deref.ensures.value ∙ c.in_ok-ids.ensures.all,
+      subjects_are word_subject_of word_entry_view c.deref-2.result.now
+          c.args.text.now.entries.items c.deref-2.ensures.value,
+    ) at c.in_err-places.ensures.fault))
 
 pub check_given-requires-clause-whole : goal.check_given-requires-clause-whole
 check_given-requires-clause-whole c =
-    whole_given c.args.names.now c.args.cells.now (words_view c.args.text.now) c.deref.result.now _ (c.deref.ensures.value ∙ c.in_ok-ids.ensures.all)
-    (subjects_are c.args.text.now.entries.items c.deref-2.result.now c.deref-2.ensures.value)
-    c.in_ok-places.ensures.whole
+    rw (
+      c.deref.ensures.value ∙ c.in_ok-ids.ensures.all,
+      subjects_are word_subject_of word_entry_view c.deref-2.result.now
+          c.args.text.now.entries.items c.deref-2.ensures.value,
+    ) at c.in_ok-places.ensures.whole
 
 pub returns-clause-gives : goal.returns-clause-gives
 returns-clause-gives c =

@@ -1,5 +1,4 @@
-use Rattle.word_interp.proofs.Refusals.{words_refused}
-use Rattle.word_interp.proofs.OneCause.{one_words_cause}
+use Rattle.word_interp.proofs.OneCause.{one_words_cause, words_refused}
 use Rattle.word_interp.proofs.laws.one_cause.Goals as goal
 
 pub returns-clause-words : goal.returns-clause-words
