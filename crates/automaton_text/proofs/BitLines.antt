@@ -1,15 +1,14 @@
 -- Lines, part by part.
-use Rattle.std.proofs.Common.{◌≡◌, ◌∙◌, ℕ, suc, ◌+◌, Bool, true, false, eqb, List, [], ◌∷◌, ◌++◌, length, map, Option, Some, None}
-use Rattle.std.proofs.Common.{refl, sym, ap, subst, arith, codes, inl, inr}
+use Rattle.std.proofs.Common.{◌≡◌, ◌∙◌, ℕ, suc, ◌+◌, Bool, true, false, eqb, List, [], ◌∷◌, length, Option, Some, None}
+use Rattle.std.proofs.Common.{refl, sym, ap, arith, codes, inl, inr}
 use Rattle.std.specs.Prelude.{option_map, option_and_then, if◌then◌else◌}
 use Rattle.std.proofs.lemmas.Bool.{eqb-true}
 use Rattle.line_formats.specs.Format.{fixed, nothing, has, one_byte, strip, at_end, mapped, chosen, read}
-use Rattle.line_formats.proofs.FormatLaws.{IsLeaf, strip_sound, many_more, many_none, many_end}
+use Rattle.line_formats.proofs.FormatLaws.{IsLeaf, many_more, many_none, many_end}
 use Rattle.line_formats.proofs.LeafLaws.{number_is_leaf, run_is_leaf}
 use Rattle.automaton_text.specs.HoaText.{quotable}
 use Rattle.automaton_text.specs.HoaLines.{Part, counted, quoted, inside, PartValue, any, within_brackets, leaves, word_line, quoted_name, bit_texts}
 use Rattle.automaton_text.specs.HoaLines.{mark, line_value}
-use Rattle.automaton_text.proofs.LiteralLines.{only_byte}
 
 pub law : (i : Part) → IsLeaf (leaves i)
 law counted = number_is_leaf

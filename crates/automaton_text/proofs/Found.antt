@@ -1,5 +1,5 @@
 -- What a reader found is the automaton that the text tells, or the refusal that it deserves.
-use Rattle.std.proofs.Common.{◌≡◌, ◌∙◌, ℕ, ◌+◌, ◌<◌, ◌≤◌, Bool, true, false, ◌&&◌, leb, List, [], ◌∷◌, length, All, Result, Ok, Err, refl, sym, ap, subst, arith}
+use Rattle.std.proofs.Common.{◌≡◌, ◌∙◌, ℕ, ◌<◌, ◌≤◌, Bool, true, false, leb, List, [], ◌∷◌, length, All, Result, Ok, Err, refl, sym, ap, subst, arith}
 use Rattle.std.specs.Prelude.{IfOk, IfErr, if◌then◌else◌}
 use Rattle.std.specs.List.{AllByRecursion}
 use Rattle.std.proofs.lemmas.Bool.{and_from, le-leb}
@@ -7,8 +7,8 @@ use Rattle.std.proofs.lemmas.List.Elements.{All-from_recursion}
 use Rattle.line_formats.specs.Machine.{IsFirstWrong}
 use Rattle.letter_space.specs.declared.limits.TheConstants.{MOST_BITS}
 use Rattle.cobuchi_automata.specs.Automata.{EdgeTree}
-use Rattle.cobuchi_automata.specs.Edges.{edge_tree, edge_trees, IsBetween}
-use Rattle.cobuchi_automata.specs.Refusals.{most_automaton_states, most_automaton_edges}
+use Rattle.cobuchi_automata.specs.Edges.{edge_trees, IsBetween}
+use Rattle.cobuchi_automata.specs.Refusals.{most_automaton_states}
 use Rattle.cobuchi_automata.specs.declared.automaton.Edge.{Edge}
 use Rattle.automaton_text.specs.declared.hoa_error.HoaError.{HoaError}
 use Rattle.automaton_text.specs.declared.hoa_error.HoaError.TheVariants.{Form, Bits, States, Edges, NoMemory}
@@ -16,8 +16,8 @@ use Rattle.automaton_text.specs.declared.reader.Hoa.{Hoa}
 use Rattle.automaton_text.specs.declared.reader.HoaReader.{HoaReader}
 use Rattle.automaton_text.specs.HoaText.{IsEdgeOf, IsHoaText}
 use Rattle.automaton_text.specs.HoaLines.{State, step, whole, fresh}
-use Rattle.automaton_text.specs.HoaRefusals.{IsHoaRefusal, IsSmall, TellsOf}
-use Rattle.automaton_text.specs.HoaView.{are_few, kept_edges, kept, edges_read, reader_state}
+use Rattle.automaton_text.specs.HoaRefusals.{IsHoaRefusal, IsSmall}
+use Rattle.automaton_text.specs.HoaView.{are_few, kept_edges, edges_read, reader_state}
 use Rattle.automaton_text.specs.internal.Limits.{HasAutomaton, PassesLimit}
 use Rattle.automaton_text.proofs.HoaKept.{IsRead}
 use Rattle.automaton_text.proofs.HoaSteps.{passed_all}
@@ -43,9 +43,9 @@ pub has_automaton : (text : List ℕ) (k : State) → IsRead text k → HasAutom
 has_automaton text k r =
     subst HasAutomaton r.is (record {
       passed = passed_all r.full r.holds r.ended;
-      some_state = r.holds.some_state;
+      some_state = r.holds.told.some_state;
       between = joins_kept (are_few r.full.bits r.full.states) r.full.states r.full.edges
-          (joins_of r.full.bits r.full.states r.full.edges r.holds.are_edges);
+          (joins_of (length r.full.names) r.full.states r.full.edges r.holds.told.are_edges);
     })
 
 -- the edges that a reader within the limits has are between its states

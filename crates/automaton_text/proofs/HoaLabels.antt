@@ -1,20 +1,18 @@
 -- Lines of automata and what they say are each other's.
-use Rattle.std.proofs.Common.{◌≡◌, ◌∙◌, ℕ, suc, ◌+◌, ◌<◌, ◌^◌, ◌==◌, Bool, true, false, ◌&&◌, eqb, ltb, List, [], ◌∷◌, ◌++◌, length, map}
-use Rattle.std.proofs.Common.{Option, Some, None, refl, sym, ap, append_assoc, append-nil, arith, codes, inl, inr}
-use Rattle.std.specs.Prelude.{option_map, option_and_then, flat_map, decimal, if◌then◌else◌}
+use Rattle.std.proofs.Common.{◌≡◌, ◌∙◌, ℕ, ◌^◌, Bool, true, false, ◌&&◌, ltb, List, [], ◌∷◌, ◌++◌, length, map}
+use Rattle.std.proofs.Common.{Option, Some, None, refl, sym, ap, append_assoc, append-nil, codes, inl, inr}
+use Rattle.std.specs.Prelude.{option_map, flat_map, decimal, if◌then◌else◌}
 use Rattle.std.specs.List.{list_all}
-use Rattle.std.proofs.lemmas.Bool.{and_parts, and_from, ltb-true, lt-ltb, eq-eqb}
-use Rattle.tsl_text.specs.Written.{is_line}
-use Rattle.line_formats.specs.Format.{Value, fits, has, print, value_of_line}
-use Rattle.line_formats.proofs.FormatLaws.{line_read, line_written, print_is_line}
-use Rattle.automaton_text.specs.HoaText.{joined, mark_text, states_text, state_text, quoted_text, bits_text, is_quotable, quotable}
-use Rattle.automaton_text.specs.HoaLines.{PartValue, leaves, any, states_line, state_line, edge_line, mark, is_marked, quoted_name, bit_texts}
-use Rattle.automaton_text.specs.HoaLines.{bits_line, body_line, line_value, line_text, quoted_names, Numbers, number_leaves, literal_line, literal}
-use Rattle.automaton_text.specs.HoaLines.{Literals, literal_leaves, LiteralValue, next_literal, more_literals, label_line, LiteralTree}
-use Rattle.automaton_text.specs.HoaLines.{literal_of, further_literals, literals_of, literals_in, within_brackets}
-use Rattle.automaton_text.proofs.BitLines.{law}
+use Rattle.std.proofs.lemmas.Bool.{and_parts, and_from}
+use Rattle.line_formats.specs.Format.{Value, fits, print, value_of_line}
+use Rattle.line_formats.proofs.FormatLaws.{line_read, line_written}
+use Rattle.automaton_text.specs.HoaText.{joined, mark_text, states_text, state_text, quoted_text, bits_text}
+use Rattle.automaton_text.specs.HoaLines.{PartValue, leaves, states_line, state_line, edge_line, mark, is_marked, quoted_name}
+use Rattle.automaton_text.specs.HoaLines.{bits_line, line_text, quoted_names, Numbers, number_leaves, literal_line}
+use Rattle.automaton_text.specs.HoaLines.{Literals, literal_leaves, LiteralValue, next_literal, label_line, LiteralTree}
+use Rattle.automaton_text.specs.HoaLines.{literal_of, literals_of, literals_in}
 use Rattle.automaton_text.proofs.LabelBits.{text_of_literal}
-use Rattle.automaton_text.proofs.LiteralLines.{number_law, literal_law}
+use Rattle.automaton_text.proofs.LiteralLines.{literal_law}
 
 -- ---- labels
 

@@ -1,6 +1,6 @@
 -- From what the lines say, as far as they are right, some lines lead to the end; so a fault is the first wrong line.
-use Rattle.std.proofs.Common.{◌≡◌, ◌∙◌, ℕ, zero, suc, ◌+◌, ◌-◌, ◌<◌, ◌≤◌, ◌^◌, ◌==◌, Bool, true, false, ◌&&◌, eqb, ltb, List, [], ◌∷◌, ◌++◌, length}
-use Rattle.std.proofs.Common.{Option, Some, None, Result, Ok, Err, slice_get, refl, sym, ap, subst, arith, append-nil, codes, inl, inr, ◌⊎◌}
+use Rattle.std.proofs.Common.{◌≡◌, ◌∙◌, ℕ, suc, ◌+◌, ◌-◌, ◌<◌, ◌≤◌, ◌==◌, Bool, true, false, ◌&&◌, ltb, List, [], ◌∷◌, length}
+use Rattle.std.proofs.Common.{Option, Some, None, Err, slice_get, refl, sym, ap, subst, arith, append-nil, codes, inl, inr, ◌⊎◌}
 use Rattle.std.specs.Prelude.{option_and_then, if◌then◌else◌}
 use Rattle.std.specs.List.{list_all}
 use Rattle.std.proofs.lemmas.Bool.{and_from, and_parts, lt-ltb, eq-eqb, cases_lt}
@@ -11,13 +11,14 @@ use Rattle.line_formats.specs.Format.{fits}
 use Rattle.line_formats.specs.Machine.{read_from, IsText, IsFirstWrong}
 use Rattle.line_formats.proofs.FormatLaws.{line_read, print_is_line}
 use Rattle.line_formats.proofs.MachineLaws.{Goes, ends_by, fault_is_first}
-use Rattle.automaton_text.specs.HoaText.{number_bound, is_quotable, states_text, state_text, bits_text}
-use Rattle.automaton_text.specs.HoaLines.{PartValue, leaves, word_line, states_line, bits_line, state_line, end_line, body_line, quoted_name}
-use Rattle.automaton_text.specs.HoaLines.{line_value, line_text, quoted_names, Head, says, counts, lists, header, State, fresh, when, states_step, bits_step}
-use Rattle.automaton_text.specs.HoaLines.{head_step, state_step, end_step, body_step, step_at, step, whole}
+use Rattle.cobuchi_automata.specs.Automata.{EdgeTree}
+use Rattle.automaton_text.specs.HoaText.{number_bound, is_quotable, IsHoa, state_text, bits_text}
+use Rattle.automaton_text.specs.HoaLines.{PartValue, leaves, word_line, states_line, bits_line, state_line, body_line, quoted_name}
+use Rattle.automaton_text.specs.HoaLines.{line_value, line_text, Head, says, counts, lists, header, State, fresh, when, states_step, bits_step}
+use Rattle.automaton_text.specs.HoaLines.{head_step, body_step, step_at, step, whole}
 use Rattle.automaton_text.proofs.BitLines.{law}
 use Rattle.automaton_text.proofs.HoaLabels.{states_print, state_print, bits_print, as_quoted, names_are}
-use Rattle.automaton_text.proofs.HoaSteps.{Holds, holds_first, kept, head_text, head_within, past_header}
+use Rattle.automaton_text.proofs.HoaSteps.{Holds, holds_first, kept, head_text, head_within}
 
 pub when_true : (b : Bool) (s : State) → b ≡ true → when b s ≡ Some s
 when_true b s h = ap (λ t. when t s) h
@@ -45,19 +46,18 @@ as_quoted_fit (n ∷ names) all =
     and_from (fits PartValue leaves quoted_name (n, tt)) (list_all (fits PartValue leaves quoted_name) (as_quoted names))
     (and_from (is_quotable n && true) true (and_from (is_quotable n) true parts.0 refl) refl) (as_quoted_fit names parts.1)
 
-module _ (s : State) (names : List (List ℕ)) (states : ℕ) (open' : s.ended ≡ false) (plain : list_all is_quotable names ≡ true)
-    (few_bits : length names < number_bound) (some : 1 ≤ states) (few_states : states < number_bound) where
+module _ (s : State) (names : List (List ℕ)) (states : ℕ) (edges : List EdgeTree) (open' : s.ended ≡ false) (is : IsHoa names states edges) where
   at_head : (h : Head) → slice_get header s.passed ≡ Some h → step s (head_text names states h) ≡ head_step s h (head_text names states h)
   at_head h here = λ i. step_at (open' i) (here i) s (head_text names states h)
 
   bits_fit : fits PartValue leaves bits_line (length names, (as_quoted names, tt)) ≡ true
   bits_fit =
       and_from (ltb (length names) number_bound) (list_all (fits PartValue leaves quoted_name) (as_quoted names) && true)
-      (lt-ltb (length names) number_bound few_bits)
-      (and_from (list_all (fits PartValue leaves quoted_name) (as_quoted names)) true (as_quoted_fit names plain) refl)
+      (lt-ltb (length names) number_bound is.few_bits)
+      (and_from (list_all (fits PartValue leaves quoted_name) (as_quoted names)) true (as_quoted_fit names is.plain) refl)
 
   states_fit : fits PartValue leaves states_line (states, tt) ≡ true
-  states_fit = and_from (ltb states number_bound) true (lt-ltb states number_bound few_states) refl
+  states_fit = and_from (ltb states number_bound) true (lt-ltb states number_bound is.few_states) refl
 
   bits_text_is : line_text bits_line (length names, (as_quoted names, tt)) ≡ bits_text names
   bits_text_is =
@@ -74,7 +74,7 @@ module _ (s : State) (names : List (List ℕ)) (states : ℕ) (open' : s.ended �
       at_head counts here
       ∙ ap (head_step s counts) (sym (states_print states))
       ∙ ap (option_and_then (states_step s)) (line_read PartValue leaves law states_line refl (states, tt) states_fit)
-      ∙ when_true (ltb 0 states) (record s { passed = suc s.passed; states = states }) (lt-ltb 0 states (omega (arith, some)))
+      ∙ when_true (ltb 0 states) (record s { passed = suc s.passed; states = states }) (lt-ltb 0 states (let some = is.some_state in omega (arith, some)))
   head_goes lists here =
       at_head lists here
       ∙ ap (head_step s lists) (sym bits_text_is)
@@ -136,8 +136,8 @@ goes s h = by_end s.ended refl where
       let within = head_within s.passed hd here in record {
         line = head_text s.names s.states hd;
         next = head_after s s.names s.states hd;
-        is = head_is_line s s.names s.states open' h.plain h.few_bits h.some_state h.few_states hd here;
-        steps_to = head_goes s s.names s.states open' h.plain h.few_bits h.some_state h.few_states hd here;
+        is = head_is_line s s.names s.states s.edges open' h.told hd here;
+        steps_to = head_goes s s.names s.states s.edges open' h.told hd here;
         less = less hd within;
       }
     where
@@ -150,8 +150,8 @@ goes s h = by_end s.ended refl where
   by_body open' past (inl below) = record {
     line = state_text s.begun;
     next = record s { begun = suc s.begun };
-    is = state_is_line s.begun (let few = h.few_states in omega (arith, below, few));
-    steps_to = state_goes s open' past below h.few_states;
+    is = state_is_line s.begun (let few = h.told.few_states in omega (arith, below, few));
+    steps_to = state_goes s open' past below h.told.few_states;
     less = omega (arith, below);
   }
   by_body open' past (inr above) = record {

@@ -1,5 +1,5 @@
 -- Labels, part by part.
-use Rattle.std.proofs.Common.{◌≡◌, ◌∙◌, ℕ, suc, Bool, true, false, ◌&&◌, ◌||◌, eqb, leb, List, [], ◌∷◌, ◌++◌, length, map, Option, Some, None}
+use Rattle.std.proofs.Common.{◌≡◌, ◌∙◌, ℕ, suc, Bool, true, false, ◌&&◌, ◌||◌, eqb, leb, List, [], ◌∷◌, ◌++◌, length, Option, Some, None}
 use Rattle.std.proofs.Common.{refl, sym, ap, subst, append_assoc, append-nil, arith, codes, inl, inr}
 use Rattle.std.specs.Prelude.{option_map, if◌then◌else◌}
 use Rattle.std.proofs.lemmas.List.{map-append}
@@ -9,7 +9,7 @@ use Rattle.line_formats.specs.Leaves.{first_number}
 use Rattle.line_formats.proofs.FormatLaws.{IsLeaf, sound, first, again, print_is_line, strip_sound, many_more, many_none, many_end}
 use Rattle.line_formats.proofs.LeafLaws.{number_is_leaf}
 use Rattle.automaton_text.specs.HoaLines.{One, Numbers, number_leaves, literal_line, literal, Literals, literal_leaves, LiteralValue}
-use Rattle.automaton_text.specs.HoaLines.{next_literal, more_literals, label_line, LiteralTree, literal_of, further_literals, literals_of, literals_in}
+use Rattle.automaton_text.specs.HoaLines.{next_literal, more_literals, LiteralTree, literal_of, further_literals, literals_of, literals_in}
 use Rattle.automaton_text.specs.HoaView.{literal_tree, literal_trees, literal_value}
 use Rattle.automaton_text.specs.declared.literals.Literal.{Literal}
 

@@ -1,15 +1,17 @@
 -- What a reader does with a line is what the line says.
-use Rattle.std.proofs.Common.{◌≡◌, ◌∙◌, ℕ, zero, suc, ◌+◌, ◌<◌, ◌≤◌, ◌==◌, Bool, true, false, ◌&&◌, eqb, ltb, leb, List, [], ◌∷◌, ◌++◌, length, Option, Some, None}
-use Rattle.std.proofs.Common.{slice_get, refl, sym, ap, subst, arith, add-one, inl, inr}
+use Rattle.std.proofs.Common.{◌≡◌, ◌∙◌, ℕ, suc, ◌+◌, ◌<◌, ◌≤◌, Bool, true, false, ◌&&◌, ltb, leb, List, [], ◌∷◌, ◌++◌, length, Option, Some, None}
+use Rattle.std.proofs.Common.{slice_get, refl, sym, ap, arith, add-one}
 use Rattle.std.specs.Prelude.{option_map, option_and_then, if◌then◌else◌}
-use Rattle.std.proofs.lemmas.Bool.{and_parts, and_from, lt-ltb, leb-true, ltb-true, le-leb, eq-eqb, false_from_ne_true}
+use Rattle.std.proofs.lemmas.Bool.{and_parts, and_from, lt-ltb, leb-true, ltb-true, eq-eqb, false_from_ne_true}
+use Rattle.std.proofs.lemmas.List.{length-map}
 use Rattle.std.specs.List.{list_all}
+use Rattle.sequence.proofs.Options.{some_mapped}
 use Rattle.line_formats.specs.Format.{Value}
 use Rattle.cobuchi_automata.specs.Automata.{EdgeTree}
 use Rattle.cobuchi_automata.specs.Edges.{edge_trees}
 use Rattle.automaton_text.specs.HoaLines.{PartValue, bits_line, edge_line, line_value, quoted_names}
-use Rattle.automaton_text.specs.HoaLines.{is_marked, LiteralTree, literals_in, rise, Head, lists, header, State, when}
-use Rattle.automaton_text.specs.HoaLines.{bits_step, head_step, edge_with, may_join, edge_step, step_at}
+use Rattle.automaton_text.specs.HoaLines.{is_marked, LiteralTree, literals_in, rise, lists, header, State, when}
+use Rattle.automaton_text.specs.HoaLines.{bits_step, edge_with, may_join, edge_step, step_at}
 use Rattle.automaton_text.specs.HoaView.{are_few, kept_edges, kept, kept_step, edges_read, reader_state}
 use Rattle.automaton_text.specs.declared.reader.HoaReader.{HoaReader}
 use Rattle.automaton_text.specs.internal.Marks.{mark_value}
@@ -56,50 +58,20 @@ passed_state old new states bits within p same_states same_bits =
       ended = sym p.ended i;
     }
 
-at_head : (r : HoaReader) (h : Head) (line : List ℕ) → r.ended ≡ false → slice_get header r.passed ≡ Some h →
-    kept_step (reader_state r) line ≡ option_map kept (head_step (reader_state r) h line)
-at_head r h line open' here = λ i. option_map kept (step_at (open' i) (here i) (reader_state r) line)
-
--- the line of the bits, by its numbers alone
-bits_kept : (old : HoaReader) (line : List ℕ) → old.ended ≡ false → slice_get header old.passed ≡ Some lists →
-    kept_step (reader_state old) line
-    ≡ option_and_then
-    (λ (v : ℕ × ℕ). option_map kept (when (eqb v.0 v.1) (record (reader_state old) { passed = suc old.passed; bits = v.1 })))
-    (option_map {U = ℕ × ℕ} (λ (v : Value PartValue bits_line). (v.0, length v.1.0)) (line_value bits_line line))
-bits_kept old line open' here = at_head old lists line open' here ∙ by (line_value bits_line line) where
-  by_test : (n : ℕ) (ns : List (List ℕ)) (m : ℕ) (b : Bool) → length ns ≡ m →
-      option_map kept (when b (record (reader_state old) { passed = suc old.passed; names = ns; bits = length ns }))
-      ≡ option_map kept (when b (record (reader_state old) { passed = suc old.passed; bits = m }))
-  by_test n ns m false same = refl
-  by_test n ns m true same = λ i. Some (kept (record (reader_state old) { passed = suc old.passed; bits = same i }))
-
-  by : (o : Option (Value PartValue bits_line)) →
-      option_map kept (option_and_then (bits_step (reader_state old)) o)
-      ≡ option_and_then
-      (λ (v : ℕ × ℕ). option_map kept (when (eqb v.0 v.1) (record (reader_state old) { passed = suc old.passed; bits = v.1 })))
-      (option_map {U = ℕ × ℕ} (λ (v : Value PartValue bits_line). (v.0, length v.1.0)) o)
-  by None = refl
-  by (Some v) =
-      let long = length_names v.1.0 in
-      by_test v.0 (quoted_names v.1) (length v.1.0) (eqb v.0 (length (quoted_names v.1))) long
-      ∙ ap (λ k. option_map kept (when (eqb v.0 k) (record (reader_state old) { passed = suc old.passed; bits = length v.1.0 }))) long
-    where
-      length_names : (vs : List (List ℕ × Unit {0})) → length (quoted_names (vs, tt)) ≡ length vs
-      length_names [] = refl
-      length_names (v ∷ vs) = ap suc (length_names vs)
-
 pub bits_read : (old new : HoaReader) (line : List ℕ) (n m : ℕ) → old.ended ≡ false → slice_get header old.passed ≡ Some lists →
     option_map {U = ℕ × ℕ} (λ (v : Value PartValue bits_line). (v.0, length v.1.0)) (line_value bits_line line) ≡ Some (n, m) → n ≡ m →
     Passes old new → new.states ≡ old.states → new.bits ≡ n → kept_step (reader_state old) line ≡ Some (reader_state new)
 bits_read old new line n m open' here said same p same_states same_bits =
-    bits_kept old line open' here
-    ∙ ap
-    (option_and_then
-    (λ (v : ℕ × ℕ). option_map kept (when (eqb v.0 v.1) (record (reader_state old) { passed = suc old.passed; bits = v.1 }))))
-    said
-    ∙ ap (λ b. option_map kept (when b (record (reader_state old) { passed = suc old.passed; bits = m }))) (eq-eqb n m same)
-    ∙ ap Some
-    (passed_state old new old.states m (head_within old.passed lists here) p same_states (same_bits ∙ same))
+    let found = some_mapped (λ (v : Value PartValue bits_line). (v.0, length v.1.0)) (line_value bits_line line) (n, m) said in
+    let v = found.0 in
+    let names = quoted_names v.1 in
+    let first : v.0 ≡ n = ap (λ (k : ℕ × ℕ). k.0) found.2 in
+    let long : length names ≡ m = length-map v.1.0 _ ∙ ap (λ (k : ℕ × ℕ). k.1) found.2 in
+    (λ i. option_map kept (step_at (open' i) (here i) (reader_state old) line))
+    ∙ ap (λ o. option_map kept (option_and_then (bits_step (reader_state old)) o)) found.1
+    ∙ ap (λ b. option_map kept (when b (record (reader_state old) { passed = suc old.passed; names = names; bits = length names })))
+    (eq-eqb v.0 (length names) (first ∙ same ∙ sym long))
+    ∙ ap Some (passed_state old new old.states (length names) (head_within old.passed lists here) p same_states (same_bits ∙ same ∙ sym long))
 
 -- ---- edges
 

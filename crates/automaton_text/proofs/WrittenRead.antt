@@ -1,15 +1,14 @@
 -- The text of an automaton is read as this automaton, its edges in the order of their first states.
-use Rattle.std.proofs.Common.{◌≡◌, ◌∙◌, ℕ, zero, suc, ◌+◌, ◌-◌, ◌<◌, ◌≤◌, ◌^◌, ◌==◌, Bool, true, false, cond, ◌&&◌, ◌||◌, eqb, ltb, leb}
-use Rattle.std.proofs.Common.{List, [], ◌∷◌, ◌++◌, length, map, Option, Some, None, refl, sym, ap, subst, arith, append_assoc, append-nil}
+use Rattle.std.proofs.Common.{◌≡◌, ◌∙◌, ℕ, zero, suc, ◌+◌, ◌-◌, ◌<◌, Bool, true, false, cond, ◌&&◌, ◌||◌, eqb, ltb, leb}
+use Rattle.std.proofs.Common.{List, [], ◌∷◌, ◌++◌, length, map, Some, refl, sym, ap, arith, append_assoc, append-nil}
 use Rattle.std.proofs.Common.{codes, inl, Result, Ok, slice_get}
 use Rattle.std.specs.Prelude.{option_and_then, flat_map, filter, decimal, if◌then◌else◌}
 use Rattle.std.specs.List.{list_all, AllByRecursion}
 use Rattle.std.specs.Char.{is_ascii_digit}
 use Rattle.std.proofs.lemmas.Bool.{and_parts, and_from, leb-true, ltb-true, le-leb, lt-ltb, eqb-true}
-use Rattle.std.proofs.lemmas.Grind.{flat_map-append}
 use Rattle.sequence.specs.Numbers.{numbers_from}
-use Rattle.sequence.proofs.Passes.{list_all_weaker, list_all_joined, list_all_flat_map}
-use Rattle.tsl_text.specs.Written.{is_line, text_of_lines}
+use Rattle.sequence.proofs.Passes.{list_all_weaker, list_all_joined}
+use Rattle.tsl_text.specs.Written.{is_line}
 use Rattle.tsl_text.specs.Lines.{lines_from}
 use Rattle.tsl_text.proofs.NumberLaws.{decimal_digits}
 use Rattle.line_formats.specs.Format.{fits, has}
@@ -20,13 +19,13 @@ use Rattle.ltl_formula.specs.Cubes.{has_bit}
 use Rattle.cobuchi_automata.specs.Automata.{EdgeTree}
 use Rattle.annotation_check.specs.Annotations.{edges_from}
 use Rattle.automaton_text.specs.HoaText.{number_bound, joined, label_text, literal_text, bits_asked, mark_text, edge_text, state_text}
-use Rattle.automaton_text.specs.HoaText.{is_quotable, states_text, bits_text, state_lines, header_lines, hoa_lines, hoa_text, IsEdgeOf, IsHoa, IsHoaText, grouped}
-use Rattle.automaton_text.specs.HoaLines.{PartValue, leaves, within_brackets, edge_line, mark, body_line, line_value, line_text, is_marked, LiteralTree, literals_in}
-use Rattle.automaton_text.specs.HoaLines.{rise, care_with, want_with, Head, says, counts, lists, header, State, fresh, when, edge_with, may_join}
-use Rattle.automaton_text.specs.HoaLines.{edge_step, body_step, step, whole}
+use Rattle.automaton_text.specs.HoaText.{states_text, bits_text, state_lines, header_lines, hoa_lines, hoa_text, IsEdgeOf, IsHoa, IsHoaText, grouped}
+use Rattle.automaton_text.specs.HoaLines.{PartValue, leaves, within_brackets, edge_line, mark, body_line, line_value, line_text, is_marked, literals_in}
+use Rattle.automaton_text.specs.HoaLines.{rise, Head, counts, lists, header, State, fresh, when, edge_with, may_join}
+use Rattle.automaton_text.specs.HoaLines.{body_step, step, whole}
 use Rattle.automaton_text.specs.internal.Marks.{mark_value}
 use Rattle.automaton_text.proofs.BitLines.{law}
-use Rattle.automaton_text.proofs.LabelBits.{text_of_literal, texts_from, literals_from, cube_literals, cube_rises, care_back, want_back}
+use Rattle.automaton_text.proofs.LabelBits.{texts_from, literals_from, cube_literals, cube_rises, care_back, want_back}
 use Rattle.automaton_text.proofs.HoaLabels.{label_read, is_short, edge_print}
 use Rattle.automaton_text.proofs.HoaSteps.{head_text, told}
 use Rattle.automaton_text.proofs.HoaLive.{when_true, head_after, head_goes, head_is_line, state_goes, end_goes, state_is_line}
@@ -94,8 +93,12 @@ literals_short want (b ∷ bs) short =
 go : (s t u : State) (l : List ℕ) (ls : List (List ℕ)) → step s l ≡ Some t → steps step t ls ≡ Some u → steps step s (l ∷ ls) ≡ Some u
 go s t u l ls first rest = ap (option_and_then (λ t. steps step t ls)) first ∙ rest
 
-module _ (names : List (List ℕ)) (states : ℕ) (plain : list_all is_quotable names ≡ true)
-    (few_bits : length names < number_bound) (some : 1 ≤ states) (few_states : states < number_bound) where
+-- after the whole text
+abbrev read_as : List (List ℕ) → ℕ → List EdgeTree → State
+read_as names states edges =
+    record { passed = 7; states = states; names = names; bits = length names; begun = states; edges = grouped states edges; ended = true }
+
+module _ (names : List (List ℕ)) (states : ℕ) (all_edges : List EdgeTree) (hoa : IsHoa names states all_edges) where
   -- after so many states, with these edges
   abbrev at : ℕ → List EdgeTree → State
   at q es = record { passed = 7; states = states; names = names; bits = length names; begun = q; edges = es; ended = false }
@@ -103,7 +106,7 @@ module _ (names : List (List ℕ)) (states : ℕ) (plain : list_all is_quotable 
   -- ---- an edge
 
   bits_short : (d : EdgeTree) → are_short (bits_asked (length names) d.care) ≡ true
-  bits_short d = numbers_short (λ b. has_bit b d.care) 0 (length names) (omega (arith, few_bits))
+  bits_short d = numbers_short (λ b. has_bit b d.care) 0 (length names) (let few = hoa.few_bits in omega (arith, few))
 
   label_back : (d : EdgeTree) → literals_in (label_text (length names) d) ≡ Some (cube_literals (length names) d.care d.want)
   label_back d =
@@ -130,7 +133,7 @@ module _ (names : List (List ℕ)) (states : ℕ) (plain : list_all is_quotable 
       (and_from (is_inside (label_text (length names) d)) true
       (joined_inside d.want (bits_asked (length names) d.care) (bits_short d)) refl)
       (and_from (ltb d.to number_bound) (fits PartValue leaves mark (mark_value d.rejecting))
-      (lt-ltb d.to number_bound (omega (arith, below, few_states))) (mark_fits d.rejecting))
+      (lt-ltb d.to number_bound (let few = hoa.few_states in omega (arith, below, few))) (mark_fits d.rejecting))
     where
       mark_fits : (r : Bool) → fits PartValue leaves mark (mark_value r) ≡ true
       mark_fits true = refl
@@ -212,124 +215,90 @@ module _ (names : List (List ℕ)) (states : ℕ) (plain : list_all is_quotable 
       let more = flat_map (state_lines (length names) edges) (numbers_from (suc q) count) in (
         go (at q es) (at (suc q) es) (at states (es ++ (edges_from edges q ++ flat_map (edges_from edges) (numbers_from (suc q) count))))
             (state_text q) (map (edge_text (length names)) (edges_from edges q) ++ more)
-            (state_goes (at q es) refl refl below few_states)
+            (state_goes (at q es) refl refl below hoa.few_states)
             (steps_append step whole (at (suc q) es) (at (suc q) (es ++ edges_from edges q))
             (map (edge_text (length names)) (edges_from edges q)) more here.0
             ∙ rest.0
             ∙ ap (λ xs. Some (at states xs)) (append_assoc es (edges_from edges q) (flat_map (edges_from edges) (numbers_from (suc q) count)))),
         and_from (is_line (state_text q)) (list_all is_line (map (edge_text (length names)) (edges_from edges q) ++ more))
-            (state_is_line q (omega (arith, below, few_states)))
+            (state_is_line q (let few = hoa.few_states in omega (arith, below, few)))
             (list_all_joined is_line (map (edge_text (length names)) (edges_from edges q)) more here.1 rest.1),
       )
 
   -- ---- the header
 
-  abbrev in_head : ℕ → ℕ → List (List ℕ) → State
-  in_head passed n ns = record { passed = passed; states = n; names = ns; bits = length ns; begun = 0; edges = []; ended = false }
-
   head : (s : State) (h : Head) → s.ended ≡ false → slice_get header s.passed ≡ Some h →
-      step s (head_text names states h)
-      ≡ Some (head_after s names states h)
-  head s h open' here = head_goes s names states open' plain few_bits some few_states h here
+      step s (head_text names states h) ≡ Some (head_after s names states h)
+  head s h open' here = head_goes s names states all_edges open' hoa h here
 
-  -- the lines of the header that are left
-  abbrev after_name : List (List ℕ)
-  after_name = codes "Acceptance: 1 Inf(0)" ∷ codes "--BODY--" ∷ []
-
+  -- the lines behind that of the states, and behind that of the bits
   abbrev after_bits : List (List ℕ)
-  after_bits = codes "acc-name: Buchi" ∷ after_name
-
-  abbrev after_start : List (List ℕ)
-  after_start = bits_text names ∷ after_bits
+  after_bits = codes "acc-name: Buchi" ∷ codes "Acceptance: 1 Inf(0)" ∷ codes "--BODY--" ∷ []
 
   abbrev after_states : List (List ℕ)
-  after_states = codes "Start: 0" ∷ after_start
+  after_states = codes "Start: 0" ∷ bits_text names ∷ after_bits
 
-  abbrev after_version : List (List ℕ)
-  after_version = states_text states ∷ after_states
+  abbrev counted : State
+  counted = record fresh { passed = 1 }
+
+  abbrev named : State
+  named = record fresh { passed = 3; states = states }
 
   header_goes : steps step fresh (header_lines names states) ≡ Some (at 0 [])
   header_goes =
-      go fresh (in_head 1 1 []) (at 0 []) (codes "HOA: v1") after_version (head fresh (says (codes "HOA: v1")) refl refl)
-      (go (in_head 1 1 []) (in_head 2 states []) (at 0 []) (states_text states) after_states (head (in_head 1 1 []) counts refl refl)
-      (go (in_head 2 states []) (in_head 3 states []) (at 0 []) (codes "Start: 0") after_start
-      (head (in_head 2 states []) (says (codes "Start: 0")) refl refl)
-      (go (in_head 3 states []) (in_head 4 states names) (at 0 []) (bits_text names) after_bits
-      (head (in_head 3 states []) lists refl refl)
-      (go (in_head 4 states names) (in_head 5 states names) (at 0 []) (codes "acc-name: Buchi") after_name
-      (head (in_head 4 states names) (says (codes "acc-name: Buchi")) refl refl)
-      (go (in_head 5 states names) (in_head 6 states names) (at 0 []) (codes "Acceptance: 1 Inf(0)") (codes "--BODY--" ∷ [])
-      (head (in_head 5 states names) (says (codes "Acceptance: 1 Inf(0)")) refl refl)
-      (go (in_head 6 states names) (at 0 []) (at 0 []) (codes "--BODY--") []
-      (head (in_head 6 states names) (says (codes "--BODY--")) refl refl) refl))))))
+      ap (option_and_then (λ t. steps step t after_states)) (head counted counts refl refl)
+      ∙ ap (option_and_then (λ t. steps step t after_bits)) (head named lists refl refl)
 
   header_lines_are : list_all is_line (header_lines names states) ≡ true
   header_lines_are =
       and_from (is_line (states_text states)) (list_all is_line after_states)
-      (head_is_line (in_head 1 1 []) names states refl plain few_bits some few_states counts refl)
+      (head_is_line counted names states all_edges refl hoa counts refl)
       (and_from (is_line (bits_text names)) (list_all is_line after_bits)
-      (head_is_line (in_head 3 states []) names states refl plain few_bits some few_states lists refl) refl)
+      (head_is_line named names states all_edges refl hoa lists refl) refl)
 
   -- ---- the whole text
 
-  abbrev pub read_as : List EdgeTree → State
-  read_as edges = record (at states (grouped states edges)) { ended = true }
-
-  pub is_text : (edges : List EdgeTree) → AllByRecursion (IsEdgeOf (length names) states) edges →
-      IsText step whole fresh (hoa_lines names states edges) (read_as edges)
-  is_text edges all =
-      let body = states_go edges all 0 states [] (omega arith) in
-      let lines = flat_map (state_lines (length names) edges) (numbers_from 0 states) in record {
+  pub is_text : IsText step whole fresh (hoa_lines names states all_edges) (read_as names states all_edges)
+  is_text =
+      let body = states_go all_edges hoa.are_edges 0 states [] (omega arith) in
+      let lines = flat_map (state_lines (length names) all_edges) (numbers_from 0 states) in record {
         lines = list_all_joined is_line (header_lines names states ++ lines) (codes "--END--" ∷ [])
             (list_all_joined is_line (header_lines names states) lines header_lines_are body.1) refl;
-        says = steps_append step whole fresh (at states (grouped states edges)) (header_lines names states ++ lines) (codes "--END--" ∷ [])
+        says = steps_append step whole fresh (at states (grouped states all_edges)) (header_lines names states ++ lines) (codes "--END--" ∷ [])
             (steps_append step whole fresh (at 0 []) (header_lines names states) lines header_goes ∙ body.0)
-            ∙ ap (option_and_then (λ t. Some t)) (end_goes (at states (grouped states edges)) refl refl refl);
+            ∙ ap (option_and_then (λ t. Some t)) (end_goes (at states (grouped states all_edges)) refl refl refl);
         done = refl;
       }
 
 -- ---- laws
 
-pub text_of_hoa : (names : List (List ℕ)) (states : ℕ) (edges : List EdgeTree) (is : IsHoa names states edges) →
-    IsText step whole fresh (hoa_lines names states edges)
-    (read_as names states is.plain is.few_bits is.some_state is.few_states edges)
-text_of_hoa names states edges is = is_text names states is.plain is.few_bits is.some_state is.few_states edges is.are_edges
-
 pub read_back : (names : List (List ℕ)) (states : ℕ) (edges : List EdgeTree) → IsHoa names states edges →
     IsHoaText (hoa_text names states edges) (length names) states (grouped states edges)
 read_back names states edges is =
-    told (hoa_text names states edges)
-    (read_as names states is.plain is.few_bits is.some_state is.few_states edges)
-    (text_is_read step whole (hoa_lines names states edges) fresh
-    (read_as names states is.plain is.few_bits is.some_state is.few_states edges) (text_of_hoa names states edges is))
+    told (hoa_text names states edges) (read_as names states edges)
+    (text_is_read step whole (hoa_lines names states edges) fresh (read_as names states edges) (is_text names states edges is))
 
 pub never_wrong : (text : List ℕ) (bits states line : ℕ) (edges : List EdgeTree) → IsHoaText text bits states edges →
     IsFirstWrong step whole fresh text line → ⊥
 never_wrong text bits states line edges is wrong =
-    wrong.none (hoa_lines is.names states edges)
-    (read_as is.names states is.is_hoa.plain is.is_hoa.few_bits is.is_hoa.some_state is.is_hoa.few_states edges)
-    (text_of_hoa is.names states edges is.is_hoa) is.written
+    wrong.none (hoa_lines is.names states edges) (read_as is.names states edges) (is_text is.names states edges is.is_hoa) is.written
 
 pub one_automaton : (text : List ℕ) (bits states more_bits more_states : ℕ) (edges more_edges : List EdgeTree) →
     IsHoaText text bits states edges → IsHoaText text more_bits more_states more_edges →
     (bits ≡ more_bits) × (states ≡ more_states) × (edges ≡ more_edges)
 one_automaton text bits states more_bits more_states edges more_edges a b =
-    let same = same_ok (read_from step whole fresh 1 (lines_from 1 text)) (end a) (end b) (reads a) (reads b) in (
+    let same = same_ok (read_from step whole fresh 1 (lines_from 1 text)) (read_as a.names states edges)
+    (read_as b.names more_states more_edges) (reads a) (reads b) in (
       sym a.named ∙ ap (λ (s : State). s.bits) same ∙ b.named,
       ap (λ (s : State). s.states) same,
       a.in_order ∙ ap (λ (s : State). s.edges) same ∙ sym b.in_order,
     )
   where
-    end : {m n : ℕ} {es : List EdgeTree} → IsHoaText text m n es → State
-    end {m = m} {n = n} {es = es} t =
-        record { passed = 7; states = n; names = t.names; bits = length t.names; begun = n; edges = grouped n es; ended = true }
-
     reads : {m n : ℕ} {es : List EdgeTree} (t : IsHoaText text m n es) →
-        read_from step whole fresh 1 (lines_from 1 text) ≡ Ok (end t)
+        read_from step whole fresh 1 (lines_from 1 text) ≡ Ok (read_as t.names n es)
     reads {m = m} {n = n} {es = es} t =
         ap (λ x. read_from step whole fresh 1 (lines_from 1 x)) t.written
-        ∙ text_is_read step whole (hoa_lines t.names n es) fresh (end t) (text_of_hoa t.names n es t.is_hoa)
+        ∙ text_is_read step whole (hoa_lines t.names n es) fresh (read_as t.names n es) (is_text t.names n es t.is_hoa)
 
-    same_ok : (r : Result State ℕ) (s t : State) → r ≡ Ok s →
-        r ≡ Ok t → s ≡ t
+    same_ok : (r : Result State ℕ) (s t : State) → r ≡ Ok s → r ≡ Ok t → s ≡ t
     same_ok r s t h k = cc

@@ -1,7 +1,5 @@
-use Rattle.std.proofs.Common.{◌∙◌, ap, map, add-one, sym}
 use Rattle.sequence.proofs.Results.{on_ok_two}
-use Rattle.automaton_text.specs.HoaText.{literal_text, joined}
-use Rattle.automaton_text.proofs.Writing.{two, label_written}
+use Rattle.automaton_text.proofs.Writing.{label_written}
 use Rattle.automaton_text.proofs.labels.put_label.Goals as goal
 
 pub returns-in_ok-put_literal-in-Some : goal.returns-in_ok-put_literal-in-Some

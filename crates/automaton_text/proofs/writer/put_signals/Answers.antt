@@ -1,4 +1,4 @@
-use Rattle.std.proofs.Common.{IsTrue, sym, subst, map, ap}
+use Rattle.std.proofs.Common.{IsTrue, sym, subst, map}
 use Rattle.std.specs.List.{list_all}
 use Rattle.std.proofs.lemmas.Bool.{and_parts}
 use Rattle.sequence.proofs.Passes.{map_passes_within}

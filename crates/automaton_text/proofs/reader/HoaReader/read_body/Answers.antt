@@ -1,4 +1,4 @@
-use Rattle.std.proofs.Common.{◌≡◌, ◌∙◌, Bool, true, Result, Ok, sym}
+use Rattle.std.proofs.Common.{◌∙◌, true, sym}
 use Rattle.automaton_text.specs.HoaView.{reader_state}
 use Rattle.automaton_text.proofs.BodyLines.{step_edge, step_state, ok_is}
 use Rattle.automaton_text.proofs.reader.HoaReader.read_body.Goals as goal
