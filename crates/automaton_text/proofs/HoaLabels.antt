@@ -1,12 +1,12 @@
 -- Lines of automata and what they say are each other's.
-use Rattle.std.proofs.Common.{◌≡◌, ◌∙◌, ℕ, ◌^◌, Bool, true, false, ◌&&◌, ltb, List, [], ◌∷◌, ◌++◌, length, map}
+use Rattle.std.proofs.Common.{◌≡◌, ◌∙◌, ℕ, ◌<◌, Bool, true, false, ◌&&◌, ltb, List, [], ◌∷◌, ◌++◌, length, map}
 use Rattle.std.proofs.Common.{Option, Some, None, refl, sym, ap, append_assoc, append-nil, codes, inl, inr}
 use Rattle.std.specs.Prelude.{option_map, flat_map, decimal, if◌then◌else◌}
-use Rattle.std.specs.List.{list_all}
-use Rattle.std.proofs.lemmas.Bool.{and_parts, and_from}
+use Rattle.std.specs.List.{list_all, AllByRecursion}
+use Rattle.std.proofs.lemmas.Bool.{and_from, lt-ltb}
 use Rattle.line_formats.specs.Format.{Value, fits, print, value_of_line}
 use Rattle.line_formats.proofs.FormatLaws.{line_read, line_written}
-use Rattle.automaton_text.specs.HoaText.{joined, mark_text, states_text, state_text, quoted_text, bits_text}
+use Rattle.automaton_text.specs.HoaText.{number_bound, joined, mark_text, states_text, state_text, quoted_text, bits_text}
 use Rattle.automaton_text.specs.HoaLines.{PartValue, leaves, states_line, state_line, edge_line, mark, is_marked, quoted_name}
 use Rattle.automaton_text.specs.HoaLines.{bits_line, line_text, quoted_names, Numbers, number_leaves, literal_line}
 use Rattle.automaton_text.specs.HoaLines.{Literals, literal_leaves, LiteralValue, next_literal, label_line, LiteralTree}
@@ -44,10 +44,6 @@ label_written bytes ls h = by (value_of_line Literals literal_leaves label_line 
       (line_written Literals literal_leaves literal_law label_line bytes v e).0 ∙ print_label v
       ∙ ap (λ xs. joined (map text_of_literal xs)) same
 
--- numbers that can be written
-abbrev pub is_short : LiteralTree → Bool
-is_short l = ltb l.bit (10 ^ 18)
-
 abbrev as_value : LiteralTree → LiteralValue
 as_value l = if l.wanted then inr (l.bit, tt) else inl (l.bit, tt)
 
@@ -57,11 +53,11 @@ value_is l = by l.wanted refl where
   by true e = λ i. record { bit = l.bit; wanted = sym e i }
   by false e = λ i. record { bit = l.bit; wanted = sym e i }
 
-value_fits : (l : LiteralTree) → is_short l ≡ true → fits Numbers number_leaves literal_line (as_value l) ≡ true
+value_fits : (l : LiteralTree) → l.bit < number_bound → fits Numbers number_leaves literal_line (as_value l) ≡ true
 value_fits l short = by l.wanted where
   by : (w : Bool) → fits Numbers number_leaves literal_line (if w then inr (l.bit, tt) else inl (l.bit, tt)) ≡ true
-  by true = and_from (is_short l) true short refl
-  by false = and_from (is_short l) true short refl
+  by true = and_from (ltb l.bit number_bound) true (lt-ltb l.bit number_bound short) refl
+  by false = and_from (ltb l.bit number_bound) true (lt-ltb l.bit number_bound short) refl
 
 abbrev as_values : List LiteralTree → List (LiteralValue × Unit {0})
 as_values ls = map (λ l. (as_value l, tt)) ls
@@ -70,22 +66,20 @@ values_are : (ls : List LiteralTree) → map (λ (m : LiteralValue × Unit {0}).
 values_are [] = refl
 values_are (l ∷ ls) = λ i. value_is l i ∷ values_are ls i
 
-values_fit : (ls : List LiteralTree) → list_all is_short ls ≡ true →
+values_fit : (ls : List LiteralTree) → AllByRecursion (λ l. l.bit < number_bound) ls →
     list_all (fits Literals literal_leaves next_literal) (as_values ls) ≡ true
 values_fit [] all = refl
 values_fit (l ∷ ls) all =
-    let parts = and_parts (is_short l) (list_all is_short ls) all in
     and_from (fits Literals literal_leaves next_literal (as_value l, tt)) (list_all (fits Literals literal_leaves next_literal) (as_values ls))
-    (and_from (fits Numbers number_leaves literal_line (as_value l)) true (value_fits l parts.0) refl) (values_fit ls parts.1)
+    (and_from (fits Numbers number_leaves literal_line (as_value l)) true (value_fits l all.0) refl) (values_fit ls all.1)
 
-pub label_read : (ls : List LiteralTree) → list_all is_short ls ≡ true → literals_in (joined (map text_of_literal ls)) ≡ Some ls
+pub label_read : (ls : List LiteralTree) → AllByRecursion (λ l. l.bit < number_bound) ls → literals_in (joined (map text_of_literal ls)) ≡ Some ls
 label_read [] all = refl
 label_read (l ∷ ls) all =
-    let parts = and_parts (is_short l) (list_all is_short ls) all in
     let fit : fits Literals literal_leaves label_line (inr (as_value l, (as_values ls, tt))) ≡ true =
     and_from (fits Numbers number_leaves literal_line (as_value l))
-    (list_all (fits Literals literal_leaves next_literal) (as_values ls) && true) (value_fits l parts.0)
-    (and_from (list_all (fits Literals literal_leaves next_literal) (as_values ls)) true (values_fit ls parts.1) refl) in
+    (list_all (fits Literals literal_leaves next_literal) (as_values ls) && true) (value_fits l all.0)
+    (and_from (list_all (fits Literals literal_leaves next_literal) (as_values ls)) true (values_fit ls all.1) refl) in
     let are : literals_of (inr (as_value l, (as_values ls, tt))) ≡ l ∷ ls = λ i. value_is l i ∷ values_are ls i in
     ap (λ xs. literals_in (joined (map text_of_literal xs))) (sym are)
     ∙ ap literals_in (sym (print_label (inr (as_value l, (as_values ls, tt)))))

@@ -1,10 +1,14 @@
 -- What a reader does with a line is what the line says.
 use Rattle.std.proofs.Common.{◌≡◌, ◌∙◌, ℕ, suc, ◌+◌, ◌<◌, ◌≤◌, Bool, true, false, ◌&&◌, ltb, leb, List, [], ◌∷◌, ◌++◌, length, Option, Some, None}
-use Rattle.std.proofs.Common.{slice_get, refl, sym, ap, arith, add-one}
+use Rattle.std.proofs.Common.{All, slice_get, refl, sym, ap, arith, add-one}
 use Rattle.std.specs.Prelude.{option_map, option_and_then, if◌then◌else◌}
-use Rattle.std.proofs.lemmas.Bool.{and_parts, and_from, lt-ltb, leb-true, ltb-true, eq-eqb, false_from_ne_true}
+use Rattle.std.proofs.lemmas.Bool.{and_parts, lt-ltb, leb-true, ltb-true, eq-eqb, false_from_ne_true}
 use Rattle.std.proofs.lemmas.List.{length-map}
-use Rattle.std.specs.List.{list_all}
+use Rattle.std.specs.List.{AllByRecursion}
+use Rattle.std.proofs.lemmas.List.Elements.{All-from_recursion}
+use Rattle.automaton_text.specs.declared.literals.Literal.{Literal}
+use Rattle.automaton_text.specs.HoaView.{literal_tree, literal_trees}
+use Rattle.automaton_text.proofs.LabelBits.{rise_parts}
 use Rattle.sequence.proofs.Options.{some_mapped}
 use Rattle.line_formats.specs.Format.{Value}
 use Rattle.cobuchi_automata.specs.Automata.{EdgeTree}
@@ -129,20 +133,19 @@ edge_read old new line label to r ls test past said read told right grown same =
     }))
 
 -- the bits of an edge that is kept are low
-pub low_bits : (s : State) (ls : List LiteralTree) (to : ℕ) → may_join s ls to ≡ true → are_few s.bits s.states ≡ true →
-    list_all (λ l. ltb l.bit 64) ls ≡ true
+pub low_bits : (s : State) (ls : List Literal) (to : ℕ) → may_join s (literal_trees ls) to ≡ true → are_few s.bits s.states ≡ true →
+    All (λ l. l.bit < 64) ls
 low_bits s ls to join few =
-    let up = (and_parts (ltb to s.states) (rise s.bits 0 ls)
-    (and_parts (ltb 0 s.begun && leb s.begun s.states) (ltb to s.states && rise s.bits 0 ls) join).1).1 in
-    by 0 ls up
+    let up = (and_parts (ltb to s.states) (rise s.bits 0 (literal_trees ls))
+    (and_parts (ltb 0 s.begun && leb s.begun s.states) (ltb to s.states && rise s.bits 0 (literal_trees ls)) join).1).1 in
+    All-from_recursion (λ (l : Literal). l.bit < 64) ls (by 0 ls up)
   where
     few_bits : s.bits ≤ 64
     few_bits = leb-true s.bits 64 (and_parts (leb s.bits 64) (leb s.states 4096) few).0
 
-    by : (least : ℕ) (ls : List LiteralTree) → rise s.bits least ls ≡ true → list_all (λ l. ltb l.bit 64) ls ≡ true
-    by least [] up = refl
+    by : (least : ℕ) (ls : List Literal) → rise s.bits least (literal_trees ls) ≡ true → AllByRecursion (λ (l : Literal). l.bit < 64) ls
+    by least [] up = tt
     by least (l ∷ ls) up =
-        let parts = and_parts (leb least l.bit && ltb l.bit s.bits) (rise s.bits (suc l.bit) ls) up in
-        let below = ltb-true l.bit s.bits (and_parts (leb least l.bit) (ltb l.bit s.bits) parts.0).1 in
+        let parts = rise_parts s.bits least (literal_tree l) (literal_trees ls) up in
         let few = few_bits in
-        and_from (ltb l.bit 64) (list_all (λ l. ltb l.bit 64) ls) (lt-ltb l.bit 64 (omega (arith, below, few))) (by (suc l.bit) ls parts.1)
+        (omega (arith, parts.1, few), by (suc l.bit) ls parts.2)

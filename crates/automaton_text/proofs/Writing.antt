@@ -1,6 +1,6 @@
 -- The parts of a text, one after another, are the text.
 use Rattle.std.proofs.Common.{◌≡◌, ◌∙◌, ℕ, zero, suc, ◌+◌, ◌-◌, ◌<◌, Bool, true, false, cond, List, [], ◌∷◌, ◌++◌, length, map, refl, sym, ap, arith}
-use Rattle.std.proofs.Common.{append_assoc, add-one, codes}
+use Rattle.std.proofs.Common.{append_assoc, append-nil, add-one, codes}
 use Rattle.std.specs.Prelude.{filter, flat_map, decimal, if◌then◌else◌}
 use Rattle.std.proofs.lemmas.Grind.{flat_map-append}
 use Rattle.std.proofs.lemmas.List.{length-map, length-append}
@@ -13,7 +13,7 @@ use Rattle.letter_space.specs.SpaceTree.{ControlledTree, SpaceTree, choice_count
 use Rattle.cobuchi_automata.specs.Automata.{EdgeTree}
 use Rattle.annotation_check.specs.Annotations.{edges_from}
 use Rattle.automaton_text.specs.BitNames.{bit_names, choice_names}
-use Rattle.automaton_text.specs.HoaText.{literal_text, joined, bits_text, quoted_text, states_text, header_lines, state_lines, hoa_text}
+use Rattle.automaton_text.specs.HoaText.{literal_text, joined, bits_text, quoted_text, header_lines, state_lines, hoa_text}
 use Rattle.automaton_text.specs.internal.Written.{listed_lines}
 
 -- ---- the bits that a cube asks for
@@ -112,51 +112,13 @@ bits_written names space bits o o1 o2 o3 o4 o5 count first second third fourth f
     tail = flat_map quoted_text (map (probe_text names) space.predicates)
         ++ flat_map quoted_text (flat_map (choice_names names) space.controlled)
 
-    flat : (o a b c d e : List ℕ) → ((((o ++ a) ++ b) ++ c) ++ d) ++ e ≡ o ++ ((a ++ (b ++ (c ++ d))) ++ e)
-    flat o a b c d e = simp append_assoc refl
-
     five : (o o1 o2 o3 o4 o5 a b c d e : List ℕ) → o1 ≡ o ++ a → o2 ≡ o1 ++ b → o3 ≡ o2 ++ c → o4 ≡ o3 ++ d → o5 ≡ o4 ++ e →
         o5 ≡ o ++ ((a ++ (b ++ (c ++ d))) ++ e)
-    five o o1 o2 o3 o4 o5 a b c d e h1 h2 h3 h4 h5 =
-        h5 ∙ ap (λ xs. xs ++ e) (h4 ∙ ap (λ xs. xs ++ d) (h3 ∙ ap (λ xs. xs ++ c) (h2 ∙ ap (λ xs. xs ++ b) h1))) ∙ flat o a b c d e
+    five o o1 o2 o3 o4 o5 a b c d e h1 h2 h3 h4 h5 = rw (h5, h4, h3, h2, h1) (simp append_assoc)
 
--- a line more of a text
-lines_next : (o o1 o2 l : List ℕ) (ls : List (List ℕ)) → o1 ≡ o ++ (l ++ 10 ∷ []) → o2 ≡ o1 ++ text_of_lines ls →
-    o2 ≡ o ++ text_of_lines (l ∷ ls)
-lines_next o o1 o2 l ls first rest = two o o1 o2 (l ++ 10 ∷ []) (text_of_lines ls) first rest
-
-line_last : (o o1 l : List ℕ) → o1 ≡ o ++ (l ++ 10 ∷ []) → o1 ≡ o ++ text_of_lines (l ∷ [])
-line_last o o1 l is = is ∙ ap (λ xs. o ++ xs) (sym (append-end (l ++ 10 ∷ []))) where
-  append-end : (xs : List ℕ) → xs ++ [] ≡ xs
-  append-end [] = refl
-  append-end (x ∷ xs) = ap (λ ys. x ∷ ys) (append-end xs)
-
-pub header_written : (names : List (List ℕ)) (states : ℕ) (o o1 o2 o3 o4 o5 o6 o7 : List ℕ) → o1 ≡ o ++ (codes "HOA: v1" ++ 10 ∷ []) →
-    o2 ≡ o1 ++ (states_text states ++ 10 ∷ []) → o3 ≡ o2 ++ (codes "Start: 0" ++ 10 ∷ []) → o4 ≡ o3 ++ (bits_text names ++ 10 ∷ []) →
-    o5 ≡ o4 ++ (codes "acc-name: Buchi" ++ 10 ∷ []) → o6 ≡ o5 ++ (codes "Acceptance: 1 Inf(0)" ++ 10 ∷ []) →
-    o7 ≡ o6 ++ (codes "--BODY--" ++ 10 ∷ []) → o7 ≡ o ++ text_of_lines (header_lines names states)
-header_written names states o o1 o2 o3 o4 o5 o6 o7 h1 h2 h3 h4 h5 h6 h7 =
-    lines_next o o1 o7 (codes "HOA: v1") after_version h1
-    (lines_next o1 o2 o7 (states_text states) after_states h2
-    (lines_next o2 o3 o7 (codes "Start: 0") after_start h3
-    (lines_next o3 o4 o7 (bits_text names) after_bits h4
-    (lines_next o4 o5 o7 (codes "acc-name: Buchi") after_name h5
-    (lines_next o5 o6 o7 (codes "Acceptance: 1 Inf(0)") (codes "--BODY--" ∷ []) h6 (line_last o6 o7 (codes "--BODY--") h7))))))
-  where
-    after_name : List (List ℕ)
-    after_name = codes "Acceptance: 1 Inf(0)" ∷ codes "--BODY--" ∷ []
-
-    after_bits : List (List ℕ)
-    after_bits = codes "acc-name: Buchi" ∷ after_name
-
-    after_start : List (List ℕ)
-    after_start = bits_text names ∷ after_bits
-
-    after_states : List (List ℕ)
-    after_states = codes "Start: 0" ∷ after_start
-
-    after_version : List (List ℕ)
-    after_version = states_text states ∷ after_states
+pub seven : (o o1 o2 o3 o4 o5 o6 o7 a b c d e f g : List ℕ) → o1 ≡ o ++ a → o2 ≡ o1 ++ b → o3 ≡ o2 ++ c → o4 ≡ o3 ++ d → o5 ≡ o4 ++ e →
+    o6 ≡ o5 ++ f → o7 ≡ o6 ++ g → o7 ≡ o ++ (a ++ (b ++ (c ++ (d ++ (e ++ (f ++ (g ++ [])))))))
+seven o o1 o2 o3 o4 o5 o6 o7 a b c d e f g h1 h2 h3 h4 h5 h6 h7 = rw (h7, h6, h5, h4, h3, h2, h1) (simp (append_assoc, append-nil))
 
 -- ---- states
 
