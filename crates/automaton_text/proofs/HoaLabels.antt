@@ -4,15 +4,16 @@ use Rattle.std.proofs.Common.{Option, Some, None, refl, sym, ap, append_assoc, a
 use Rattle.std.specs.Prelude.{option_map, flat_map, decimal, if◌then◌else◌}
 use Rattle.std.specs.List.{list_all, AllByRecursion}
 use Rattle.std.proofs.lemmas.Bool.{and_from, lt-ltb}
+use Rattle.std.proofs.Math.Bool.{and-true}
 use Rattle.line_formats.specs.Format.{Value, fits, print, value_of_line}
 use Rattle.line_formats.proofs.FormatLaws.{line_read, line_written}
-use Rattle.automaton_text.specs.HoaText.{number_bound, joined, mark_text, states_text, state_text, quoted_text, bits_text}
+use Rattle.automaton_text.specs.HoaText.{number_bound, is_quotable, joined, mark_text, states_text, state_text, quoted_text, bits_text}
 use Rattle.automaton_text.specs.HoaLines.{PartValue, leaves, states_line, state_line, edge_line, mark, is_marked, quoted_name}
 use Rattle.automaton_text.specs.HoaLines.{bits_line, line_text, quoted_names, Numbers, number_leaves, literal_line}
 use Rattle.automaton_text.specs.HoaLines.{Literals, literal_leaves, LiteralValue, next_literal, label_line, LiteralTree}
 use Rattle.automaton_text.specs.HoaLines.{literal_of, literals_of, literals_in}
 use Rattle.automaton_text.proofs.LabelBits.{text_of_literal}
-use Rattle.automaton_text.proofs.LiteralLines.{literal_law}
+use Rattle.automaton_text.proofs.LiteralLines.{literal_law, as_value, value_is}
 
 -- ---- labels
 
@@ -43,15 +44,6 @@ label_written bytes ls h = by (value_of_line Literals literal_leaves label_line 
       let same : literals_of v ≡ ls = cc in
       (line_written Literals literal_leaves literal_law label_line bytes v e).0 ∙ print_label v
       ∙ ap (λ xs. joined (map text_of_literal xs)) same
-
-abbrev as_value : LiteralTree → LiteralValue
-as_value l = if l.wanted then inr (l.bit, tt) else inl (l.bit, tt)
-
-value_is : (l : LiteralTree) → literal_of (as_value l) ≡ l
-value_is l = by l.wanted refl where
-  by : (w : Bool) → l.wanted ≡ w → literal_of (if w then inr (l.bit, tt) else inl (l.bit, tt)) ≡ l
-  by true e = λ i. record { bit = l.bit; wanted = sym e i }
-  by false e = λ i. record { bit = l.bit; wanted = sym e i }
 
 value_fits : (l : LiteralTree) → l.bit < number_bound → fits Numbers number_leaves literal_line (as_value l) ≡ true
 value_fits l short = by l.wanted where
@@ -100,10 +92,6 @@ state_print n = ap (λ xs. codes "State: " ++ xs) (append-nil (decimal n))
 abbrev pub as_quoted : List (List ℕ) → List (List ℕ × Unit {0})
 as_quoted names = map (λ n. (n, tt)) names
 
-pub quoted_are : (vs : List (List ℕ × Unit {0})) → as_quoted (map (λ (n : List ℕ × Unit {0}). n.0) vs) ≡ vs
-quoted_are [] = refl
-quoted_are (v ∷ vs) = ap (λ xs. v ∷ xs) (quoted_are vs)
-
 pub names_are : (names : List (List ℕ)) → map (λ (n : List ℕ × Unit {0}). n.0) (as_quoted names) ≡ names
 names_are [] = refl
 names_are (n ∷ names) = ap (λ xs. n ∷ xs) (names_are names)
@@ -112,6 +100,12 @@ print_quoted : (vs : List (List ℕ × Unit {0})) →
     flat_map (print PartValue leaves quoted_name) vs ≡ flat_map quoted_text (map (λ (n : List ℕ × Unit {0}). n.0) vs)
 print_quoted [] = refl
 print_quoted (v ∷ vs) = ap (λ xs. quoted_text v.0 ++ xs) (print_quoted vs)
+
+-- names between quotes fit where none has a quote
+pub quoted_fit : (vs : List (List ℕ × Unit {0})) →
+    list_all (fits PartValue leaves quoted_name) vs ≡ list_all is_quotable (map (λ (n : List ℕ × Unit {0}). n.0) vs)
+quoted_fit [] = refl
+quoted_fit (v ∷ vs) = λ i. (and-true (is_quotable v.0 && true) ∙ and-true (is_quotable v.0)) i && quoted_fit vs i
 
 pub bits_print : (v : Value PartValue bits_line) → v.0 ≡ length (quoted_names v.1) → line_text bits_line v ≡ bits_text (quoted_names v.1)
 bits_print v count =

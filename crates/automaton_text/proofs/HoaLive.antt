@@ -17,7 +17,7 @@ use Rattle.automaton_text.specs.HoaLines.{PartValue, leaves, word_line, states_l
 use Rattle.automaton_text.specs.HoaLines.{line_value, line_text, Head, says, counts, lists, header, State, fresh, when, states_step, bits_step}
 use Rattle.automaton_text.specs.HoaLines.{head_step, body_step, step_at, step, whole}
 use Rattle.automaton_text.proofs.BitLines.{law}
-use Rattle.automaton_text.proofs.HoaLabels.{states_print, state_print, bits_print, as_quoted, names_are}
+use Rattle.automaton_text.proofs.HoaLabels.{states_print, state_print, bits_print, as_quoted, names_are, quoted_fit}
 use Rattle.automaton_text.proofs.HoaSteps.{Holds, holds_first, kept, head_text, head_within}
 
 pub when_true : (b : Bool) (s : State) → b ≡ true → when b s ≡ Some s
@@ -38,14 +38,6 @@ head_after s names states (says w) = record s { passed = suc s.passed }
 head_after s names states counts = record s { passed = suc s.passed; states = states }
 head_after s names states lists = record s { passed = suc s.passed; names = names; bits = length names }
 
-as_quoted_fit : (names : List (List ℕ)) → list_all is_quotable names ≡ true →
-    list_all (fits PartValue leaves quoted_name) (as_quoted names) ≡ true
-as_quoted_fit [] all = refl
-as_quoted_fit (n ∷ names) all =
-    let parts = and_parts (is_quotable n) (list_all is_quotable names) all in
-    and_from (fits PartValue leaves quoted_name (n, tt)) (list_all (fits PartValue leaves quoted_name) (as_quoted names))
-    (and_from (is_quotable n && true) true (and_from (is_quotable n) true parts.0 refl) refl) (as_quoted_fit names parts.1)
-
 module _ (s : State) (names : List (List ℕ)) (states : ℕ) (edges : List EdgeTree) (open' : s.ended ≡ false) (is : IsHoa names states edges) where
   at_head : (h : Head) → slice_get header s.passed ≡ Some h → step s (head_text names states h) ≡ head_step s h (head_text names states h)
   at_head h here = λ i. step_at (open' i) (here i) s (head_text names states h)
@@ -54,7 +46,7 @@ module _ (s : State) (names : List (List ℕ)) (states : ℕ) (edges : List Edge
   bits_fit =
       and_from (ltb (length names) number_bound) (list_all (fits PartValue leaves quoted_name) (as_quoted names) && true)
       (lt-ltb (length names) number_bound is.few_bits)
-      (and_from (list_all (fits PartValue leaves quoted_name) (as_quoted names)) true (as_quoted_fit names is.plain) refl)
+      (and_from (list_all (fits PartValue leaves quoted_name) (as_quoted names)) true (quoted_fit (as_quoted names) ∙ ap (list_all is_quotable) (names_are names) ∙ is.plain) refl)
 
   states_fit : fits PartValue leaves states_line (states, tt) ≡ true
   states_fit = and_from (ltb states number_bound) true (lt-ltb states number_bound is.few_states) refl

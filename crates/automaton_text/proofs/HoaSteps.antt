@@ -24,7 +24,7 @@ use Rattle.automaton_text.specs.HoaLines.{says, counts, lists, header, State, fr
 use Rattle.automaton_text.specs.HoaLines.{may_join, edge_step, body_step, step_at, step, whole}
 use Rattle.automaton_text.proofs.BitLines.{law}
 use Rattle.automaton_text.proofs.LabelBits.{cube_within, literals_written, care_below}
-use Rattle.automaton_text.proofs.HoaLabels.{label_written, states_print, state_print, bits_print, edge_print}
+use Rattle.automaton_text.proofs.HoaLabels.{quoted_fit, label_written, states_print, state_print, bits_print, edge_print}
 use Rattle.automaton_text.proofs.HoaGroups.{AreBelow, state_grouped, edge_grouped, lines_of, state_lined, edge_lined}
 
 -- ---- places in the header
@@ -211,15 +211,6 @@ said P t bytes f test to each k =
     let is = line_written PartValue leaves law f bytes found.0 found.1 in
     when_some P (test found.0) (to found.0) t (each found.0 is.0 is.1) found.2
 
-quoted_fit : (vs : List (List ℕ × Unit {0})) → list_all (fits PartValue leaves quoted_name) vs ≡ true →
-    list_all is_quotable (map (λ (n : List ℕ × Unit {0}). n.0) vs) ≡ true
-quoted_fit [] h = refl
-quoted_fit (v ∷ vs) h =
-    let parts = and_parts (fits PartValue leaves quoted_name v) (list_all (fits PartValue leaves quoted_name) vs) h in
-    and_from (is_quotable v.0) (list_all is_quotable (map (λ (n : List ℕ × Unit {0}). n.0) vs))
-    (and_parts (is_quotable v.0) true (and_parts (is_quotable v.0 && true) true parts.0).0).0
-    (quoted_fit vs parts.1)
-
 label_of_edge : (s : State) (ls : List LiteralTree) (to : ℕ) (r : Bool) → rise s.bits 0 ls ≡ true →
     (label : List ℕ) → literals_in label ≡ Some ls → label ≡ label_text s.bits (edge_with s ls to r)
 label_of_edge s ls to r up label h = label_written label ls h ∙ ap joined' (sym (literals_written s.bits ls up)) where
@@ -252,7 +243,7 @@ next s t l h e = by_end s.ended refl e where
       let parts = and_parts (ltb v.0 number_bound) (list_all (fits PartValue leaves quoted_name) v.1.0 && true) fit in
       in_header s l h open' lists (quoted_names v.1) s.states (length (quoted_names v.1)) here (is ∙ bits_print v same) refl
       (record {
-        plain = quoted_fit v.1.0 (and_parts (list_all (fits PartValue leaves quoted_name) v.1.0) true parts.1).0;
+        plain = sym (quoted_fit v.1.0) ∙ (and_parts (list_all (fits PartValue leaves quoted_name) v.1.0) true parts.1).0;
         few_bits = subst (λ n. n < number_bound) same (ltb-true v.0 number_bound parts.0);
         some_state = h.told.some_state;
         few_states = h.told.few_states;

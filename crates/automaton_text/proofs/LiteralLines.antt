@@ -73,8 +73,11 @@ pub positive_none : (bytes : List ℕ) → strip (codes "!") bytes ≡ None → 
     read Numbers number_leaves literal_line bytes ≡ None
 positive_none bytes h k = positive bytes h ∙ ap (λ o. mapped inr (then_end o)) k
 
-same_literal : (l : Literal) → literal_of (literal_value l) ≡ literal_tree l
-same_literal l = by l.wanted where
+abbrev pub as_value : LiteralTree → LiteralValue
+as_value l = if l.wanted then inr (l.bit, tt) else inl (l.bit, tt)
+
+pub value_is : (l : LiteralTree) → literal_of (as_value l) ≡ l
+value_is l = by l.wanted where
   by : (w : Bool) → literal_of (if w then inr (l.bit, tt) else inl (l.bit, tt)) ≡ record { bit = l.bit; wanted = w }
   by true = refl
   by false = refl
@@ -108,7 +111,7 @@ some_literals bytes rest l h k =
     no_t bytes h
     ∙ ap (λ o. option_map literals_of (at_end (mapped inr (then_read o (read Literals literal_leaves more_literals))))) k
     ∙ by (read Literals literal_leaves more_literals rest)
-    ∙ ap (λ t. option_map (λ v. t ∷ further_literals v) (value_of_line Literals literal_leaves more_literals rest)) (same_literal l)
+    ∙ ap (λ t. option_map (λ v. t ∷ further_literals v) (value_of_line Literals literal_leaves more_literals rest)) (value_is (literal_tree l))
   where
     by : (o : Option ((List (LiteralValue × Unit {0}) × Unit {0}) × List ℕ)) →
         option_map literals_of (at_end (mapped inr (with_first (literal_value l) o)))
@@ -145,7 +148,7 @@ one_more old new l bytes rest whole grown h so_far =
     by (Some v) =
         ap (λ xs. Some (xs ++ further_literals v)) (map-append literal_tree old (l ∷ []))
         ∙ ap Some (append_assoc (literal_trees old) (literal_tree l ∷ []) (further_literals v))
-        ∙ ap (λ t. Some (literal_trees old ++ t ∷ further_literals v)) (sym (same_literal l))
+        ∙ ap (λ t. Some (literal_trees old ++ t ∷ further_literals v)) (sym (value_is (literal_tree l)))
 
 pub none_more : (ls : List LiteralTree) (bytes : List ℕ) (whole : Option (List LiteralTree)) → eqb (length bytes) 0 ≡ false →
     read Literals literal_leaves next_literal bytes ≡ None →

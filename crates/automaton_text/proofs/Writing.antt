@@ -5,6 +5,7 @@ use Rattle.std.specs.Prelude.{filter, flat_map, decimal, if◌then◌else◌}
 use Rattle.std.proofs.lemmas.Grind.{flat_map-append}
 use Rattle.std.proofs.lemmas.List.{length-map, length-append}
 use Rattle.sequence.specs.Numbers.{numbers_from}
+use Rattle.sequence.proofs.Lists.{written_step}
 use Rattle.tsl_text.specs.Written.{text_of_lines}
 use Rattle.tsl_terms.specs.Name.{Name}
 use Rattle.term_text.specs.TermText.{probe_text}
@@ -18,31 +19,15 @@ use Rattle.automaton_text.specs.internal.Written.{listed_lines}
 
 -- ---- the bits that a cube asks for
 
-numbers_left : (bit bits : ℕ) → bit < bits → numbers_from bit (bits - bit) ≡ bit ∷ numbers_from (suc bit) (bits - suc bit)
-numbers_left bit bits within = let e : bits - bit ≡ suc (bits - suc bit) = omega (arith, within) in ap (numbers_from bit) e
-
-abbrev asked_from : ℕ → ℕ → ℕ → List ℕ
+abbrev pub asked_from : ℕ → ℕ → ℕ → List ℕ
 asked_from care bits bit = filter (λ b. has_bit b care) (numbers_from bit (bits - bit))
 
-asked_next : (care bits bit : ℕ) (b : Bool) → bit < bits → b ≡ has_bit bit care →
+pub asked_next : (care bits bit : ℕ) (b : Bool) → bit < bits → has_bit bit care ≡ b →
     asked_from care bits bit ≡ cond b (bit ∷ asked_from care bits (suc bit)) (asked_from care bits (suc bit))
-asked_next care bits bit b within told =
-    ap (filter (λ b. has_bit b care)) (numbers_left bit bits within)
-    ∙ ap (λ b. cond b (bit ∷ asked_from care bits (suc bit)) (asked_from care bits (suc bit))) (sym told)
-
-pub asked_first : (care bits bit : ℕ) (b : Bool) (all : List ℕ) → bit < bits → b ≡ has_bit bit care → b ≡ true →
-    asked_from care bits bit ≡ all → all ≡ bit ∷ asked_from care bits (suc bit)
-asked_first care bits bit b all within told is so_far =
-    sym so_far ∙ asked_next care bits bit b within told
+asked_next care bits bit b within is =
+    let left : bits - bit ≡ suc (bits - suc bit) = omega (arith, within) in
+    ap (λ n. filter (λ b. has_bit b care) (numbers_from bit n)) left
     ∙ ap (λ b. cond b (bit ∷ asked_from care bits (suc bit)) (asked_from care bits (suc bit))) is
-
-pub asked_later : (care bits bit : ℕ) (b : Bool) (all : List ℕ) → bit < bits → b ≡ has_bit bit care → b ≡ false →
-    asked_from care bits bit ≡ all → asked_from care bits (bit + 1) ≡ all
-asked_later care bits bit b all within told is so_far =
-    ap (asked_from care bits) (add-one bit)
-    ∙ sym (ap (λ b. cond b (bit ∷ asked_from care bits (suc bit)) (asked_from care bits (suc bit))) is)
-    ∙ sym (asked_next care bits bit b within told)
-    ∙ so_far
 
 abbrev further : ℕ → List ℕ → List ℕ
 further want bits = flat_map (λ m. codes "&" ++ m) (map (literal_text want) bits)
@@ -52,20 +37,15 @@ pub further_next : (care want bits bit : ℕ) (old new all : List ℕ) → bit <
     old ++ further want (asked_from care bits bit) ≡ all → new ++ further want (asked_from care bits (bit + 1)) ≡ all
 further_next care want bits bit old new all within grown so_far =
     ap (λ k. new ++ further want (asked_from care bits k)) (add-one bit)
-    ∙ by (has_bit bit care) refl
-    ∙ so_far
+    ∙ written_step old new (if has_bit bit care then codes "&" ++ literal_text want bit else []) (further want (asked_from care bits bit))
+    (further want (asked_from care bits (suc bit))) all so_far
+    (by (has_bit bit care) (asked_next care bits bit (has_bit bit care) within refl)) grown
   where
-    by : (b : Bool) → has_bit bit care ≡ b → new ++ further want (asked_from care bits (suc bit)) ≡ old ++ further want (asked_from care bits bit)
-    by true is =
-        ap (λ ys. ys ++ further want (asked_from care bits (suc bit)))
-        (grown ∙ ap (λ b. old ++ (if b then codes "&" ++ literal_text want bit else [])) is)
-        ∙ append_assoc old (codes "&" ++ literal_text want bit) (further want (asked_from care bits (suc bit)))
-        ∙ ap (λ xs. old ++ further want xs) (sym (asked_next care bits bit true within (sym is)))
-    by false is =
-        ap (λ ys. ys ++ further want (asked_from care bits (suc bit)))
-        (grown ∙ ap (λ b. old ++ (if b then codes "&" ++ literal_text want bit else [])) is)
-        ∙ append_assoc old [] (further want (asked_from care bits (suc bit)))
-        ∙ ap (λ xs. old ++ further want xs) (sym (asked_next care bits bit false within (sym is)))
+    by : (b : Bool) → asked_from care bits bit ≡ cond b (bit ∷ asked_from care bits (suc bit)) (asked_from care bits (suc bit)) →
+        further want (asked_from care bits bit)
+        ≡ (if b then codes "&" ++ literal_text want bit else []) ++ further want (asked_from care bits (suc bit))
+    by true is = ap (further want) is
+    by false is = ap (further want) is
 
 pub label_written : (care want bits first : ℕ) (all o o1 o2 : List ℕ) → all ≡ first ∷ asked_from care bits (suc first) →
     o1 ≡ o ++ literal_text want first → o2 ≡ o1 ++ further want (asked_from care bits (first + 1)) →
