@@ -1,12 +1,10 @@
 -- Which of the lines after the header it is, by its first byte.
-use Rattle.std.proofs.Common.{◌≡◌, ◌∙◌, ℕ, Bool, true, false, eqb, List, [], ◌∷◌, Option, Some, None, Result, Ok, slice_get, refl, sym, ap, subst, codes, inl, inr}
-use Rattle.std.specs.Prelude.{option_map, option_and_then, is_some, if◌then◌else◌}
-use Rattle.std.proofs.lemmas.Bool.{eq-eqb}
-use Rattle.std.proofs.lemmas.Option.{none-some}
-use Rattle.line_formats.specs.Format.{Format, Value, choice, has, one_byte, strip, at_end, mapped, chosen, read}
+use Rattle.std.proofs.Common.{◌≡◌, ◌∙◌, ℕ, Bool, true, false, List, [], ◌∷◌, Option, Some, None, Result, Ok, slice_get, refl, sym, ap, subst, codes, inl, inr}
+use Rattle.std.specs.Prelude.{option_map, option_and_then, is_some}
+use Rattle.line_formats.specs.Format.{Format, Value, choice, strip, at_end, mapped, chosen, read}
 use Rattle.line_formats.proofs.FormatLaws.{strip_sound}
 use Rattle.automaton_text.specs.HoaLines.{Part, PartValue, leaves, edge_line, state_line, end_line, body_line, line_value, State, header}
-use Rattle.automaton_text.specs.HoaLines.{edge_step, state_step, end_step, body_step, step_at, step}
+use Rattle.automaton_text.specs.HoaLines.{edge_step, state_step, end_step, body_step, step_at}
 use Rattle.automaton_text.specs.HoaView.{kept, kept_step}
 use Rattle.automaton_text.proofs.BitLines.{end_mapped}
 use Rattle.automaton_text.proofs.LiteralLines.{not_first}

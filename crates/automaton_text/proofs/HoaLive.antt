@@ -1,9 +1,9 @@
 -- From what the lines say, as far as they are right, some lines lead to the end; so a fault is the first wrong line.
-use Rattle.std.proofs.Common.{◌≡◌, ◌∙◌, ℕ, suc, ◌+◌, ◌-◌, ◌<◌, ◌≤◌, ◌==◌, Bool, true, false, ◌&&◌, ltb, List, [], ◌∷◌, length}
+use Rattle.std.proofs.Common.{◌≡◌, ◌∙◌, ℕ, suc, ◌+◌, ◌-◌, ◌<◌, ◌≤◌, ◌==◌, Bool, true, false, ◌&&◌, ltb, List, length}
 use Rattle.std.proofs.Common.{Option, Some, None, Err, slice_get, refl, sym, ap, subst, arith, append-nil, codes, inl, inr, ◌⊎◌}
 use Rattle.std.specs.Prelude.{option_and_then, if◌then◌else◌}
 use Rattle.std.specs.List.{list_all}
-use Rattle.std.proofs.lemmas.Bool.{and_from, and_parts, lt-ltb, eq-eqb, cases_lt}
+use Rattle.std.proofs.lemmas.Bool.{and_from, lt-ltb, eq-eqb, cases_lt}
 use Rattle.sequence.proofs.Passes.{passes_at}
 use Rattle.tsl_text.specs.Lines.{lines_from}
 use Rattle.tsl_text.specs.Written.{is_line}

@@ -1,10 +1,10 @@
 -- What each line of an automaton's text adds, and what holds of the lines so far.
 use Rattle.std.proofs.Common.{◌≡◌, ◌∙◌, ℕ, zero, suc, ◌-◌, ◌<◌, ◌≤◌, ◌^◌, ◌==◌, Bool, true, false, ◌&&◌, eqb, ltb, leb}
-use Rattle.std.proofs.Common.{List, [], ◌∷◌, ◌++◌, length, map, take, Option, Some, None, slice_get, refl, sym, ap, subst, append_assoc, append-nil}
+use Rattle.std.proofs.Common.{List, [], ◌∷◌, ◌++◌, length, take, Option, Some, None, slice_get, refl, sym, ap, subst, append_assoc, append-nil}
 use Rattle.std.proofs.Common.{arith, codes, ◌⊎◌, inl, inr, Ok}
 use Rattle.std.specs.Prelude.{option_map, option_and_then, decimal}
 use Rattle.std.specs.List.{list_all, AllByRecursion}
-use Rattle.std.proofs.lemmas.Bool.{and_parts, and_from, eqb-true, ltb-true, cases_lt}
+use Rattle.std.proofs.lemmas.Bool.{and_parts, eqb-true, ltb-true, cases_lt}
 use Rattle.std.proofs.lemmas.Nat.{pow_pos}
 use Rattle.std.proofs.lemmas.Option.{slice_get-map, slice_get_within}
 use Rattle.sequence.proofs.Each.{each_joined, each_weaker}
@@ -17,7 +17,7 @@ use Rattle.line_formats.proofs.FormatLaws.{and_then_some, line_written}
 use Rattle.line_formats.proofs.MachineLaws.{read_is_text, says_written, holds_after}
 use Rattle.cobuchi_automata.specs.Automata.{EdgeTree}
 use Rattle.automaton_text.specs.HoaText.{joined, label_text, mark_text, edge_text, states_text, state_text, bits_text, header_lines}
-use Rattle.automaton_text.specs.HoaText.{number_bound, is_quotable, IsEdgeOf, IsHoa, IsHoaText, grouped}
+use Rattle.automaton_text.specs.HoaText.{number_bound, IsEdgeOf, IsHoa, IsHoaText, grouped}
 use Rattle.automaton_text.specs.HoaLines.{Part, PartValue, leaves, line_text, word_line, states_line, bits_line, edge_line, body_line}
 use Rattle.automaton_text.specs.HoaLines.{line_value, quoted_name, quoted_names, is_marked, LiteralTree, literals_in, rise, care_with, Head}
 use Rattle.automaton_text.specs.HoaLines.{says, counts, lists, header, State, fresh, when, head_step, edge_with}
