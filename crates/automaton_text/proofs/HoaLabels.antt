@@ -8,6 +8,7 @@ use Rattle.std.proofs.Math.Bool.{and-true}
 use Rattle.line_formats.specs.Format.{Value, fits, print, value_of_line}
 use Rattle.line_formats.proofs.FormatLaws.{line_read, line_written}
 use Rattle.automaton_text.specs.HoaText.{number_bound, is_quotable, joined, mark_text, states_text, state_text, quoted_text, bits_text}
+use Rattle.automaton_text.specs.internal.Marks.{mark_value}
 use Rattle.automaton_text.specs.HoaLines.{PartValue, leaves, states_line, state_line, edge_line, mark, is_marked, quoted_name}
 use Rattle.automaton_text.specs.HoaLines.{bits_line, line_text, quoted_names, Numbers, number_leaves, literal_line}
 use Rattle.automaton_text.specs.HoaLines.{Literals, literal_leaves, LiteralValue, next_literal, label_line, LiteralTree}
@@ -113,6 +114,10 @@ bits_print v count =
     ∙ ap (λ n. codes "AP: " ++ (decimal n ++ flat_map quoted_text (quoted_names v.1))) count
 
 -- ---- the line of an edge
+
+pub mark_is : (r : Bool) → is_marked (mark_value r) ≡ r
+mark_is true = refl
+mark_is false = refl
 
 pub mark_print : (v : Value PartValue mark) → line_text mark v ≡ mark_text (is_marked v)
 mark_print (inl v) = refl

@@ -1,6 +1,6 @@
 -- What a reader does with a line is what the line says.
 use Rattle.std.proofs.Common.{◌≡◌, ◌∙◌, ℕ, suc, ◌<◌, ◌≤◌, Bool, true, false, ◌&&◌, ltb, leb, List, [], ◌∷◌, ◌++◌, length, Option, Some, None}
-use Rattle.std.proofs.Common.{All, slice_get, refl, sym, ap, arith}
+use Rattle.std.proofs.Common.{All, slice_get, sym, ap, arith}
 use Rattle.std.specs.Prelude.{option_map, option_and_then, if◌then◌else◌}
 use Rattle.std.proofs.lemmas.Bool.{and_parts, leb-true, ltb-true, eq-eqb, false_from_ne_true}
 use Rattle.std.proofs.lemmas.List.{length-map}
@@ -13,11 +13,12 @@ use Rattle.sequence.proofs.Options.{some_mapped}
 use Rattle.line_formats.specs.Format.{Value}
 use Rattle.cobuchi_automata.specs.Edges.{edge_trees}
 use Rattle.automaton_text.specs.HoaLines.{PartValue, bits_line, edge_line, line_value, quoted_names}
-use Rattle.automaton_text.specs.HoaLines.{is_marked, LiteralTree, literals_in, rise, header, State, when}
+use Rattle.automaton_text.specs.HoaLines.{LiteralTree, literals_in, rise, header, State, when}
 use Rattle.automaton_text.specs.HoaLines.{bits_step, edge_with, may_join, edge_step}
 use Rattle.automaton_text.specs.HoaView.{are_few, kept_edges, kept, edges_read, reader_state}
 use Rattle.automaton_text.specs.declared.reader.HoaReader.{HoaReader}
 use Rattle.automaton_text.specs.internal.Marks.{mark_value}
+use Rattle.automaton_text.proofs.HoaLabels.{mark_is}
 use Rattle.automaton_text.proofs.HoaSteps.{past_header}
 use Rattle.automaton_text.proofs.HoaKept.{pushed}
 
@@ -39,10 +40,6 @@ bits_said s line n m said same =
     ∙ (λ i. Some (kept (record s { passed = suc s.passed; bits = long i })))
 
 -- ---- edges
-
-mark_is : (r : Bool) → is_marked (mark_value r) ≡ r
-mark_is true = refl
-mark_is false = refl
 
 abbrev edge_from : State → Option (List LiteralTree) → ℕ → Bool → Option State
 edge_from s o to r =

@@ -28,7 +28,7 @@ use Rattle.automaton_text.specs.HoaLines.{body_step, step, whole}
 use Rattle.automaton_text.specs.internal.Marks.{mark_value}
 use Rattle.automaton_text.proofs.BitLines.{law}
 use Rattle.automaton_text.proofs.LabelBits.{texts_from, cube_literals, cube_rises, care_back, want_back}
-use Rattle.automaton_text.proofs.HoaLabels.{label_read, edge_print}
+use Rattle.automaton_text.proofs.HoaLabels.{label_read, edge_print, mark_is}
 use Rattle.automaton_text.proofs.HoaSteps.{head_text, told}
 use Rattle.automaton_text.proofs.HoaLive.{when_true, head_after, head_goes, head_is_line, state_goes, end_goes, state_is_line}
 
@@ -106,16 +106,12 @@ module _ (names : List (List ℕ)) (states : ℕ) (all_edges : List EdgeTree) (h
       (each_map (λ (l : LiteralTree). l.bit < number_bound) (λ b. record { bit = b; wanted = has_bit b d.want })
       (bits_asked (length names) d.care) (bits_short d))
 
-  mark_same : (r : Bool) → is_marked (mark_value r) ≡ r
-  mark_same true = refl
-  mark_same false = refl
-
   edge_line_is : (d : EdgeTree) →
       line_text edge_line (label_text (length names) d, (d.to, mark_value d.rejecting))
       ≡ edge_text (length names) d
   edge_line_is d =
       edge_print (label_text (length names) d) d.to (mark_value d.rejecting)
-      ∙ ap (λ r. codes "[" ++ label_text (length names) d ++ codes "] " ++ decimal d.to ++ mark_text r) (mark_same d.rejecting)
+      ∙ ap (λ r. codes "[" ++ label_text (length names) d ++ codes "] " ++ decimal d.to ++ mark_text r) (mark_is d.rejecting)
 
   edge_fits : (d : EdgeTree) → d.to < states →
       fits PartValue leaves edge_line (label_text (length names) d, (d.to, mark_value d.rejecting)) ≡ true
@@ -138,7 +134,7 @@ module _ (names : List (List ℕ)) (states : ℕ) (all_edges : List EdgeTree) (h
     care = care_back (length names) d.care d.want is.asks i;
     want = want_back (length names) d.care d.want is.asks is.within i;
     to = d.to;
-    rejecting = mark_same d.rejecting i;
+    rejecting = mark_is d.rejecting i;
   }
 
   edge_goes : (d : EdgeTree) (q : ℕ) (es : List EdgeTree) → d.from ≡ q → IsEdgeOf (length names) states d →

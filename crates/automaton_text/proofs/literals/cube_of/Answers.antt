@@ -6,6 +6,3 @@ pub loop-literal-preserved : goal.loop-literal-preserved
 loop-literal-preserved c =
     cube_next c.loop-literal.care c.loop-literal.want _ _ _ _ c.args.literals.now c.loop-literal.literal-index
     (record { bit = 0; wanted = false }) c.loop-literal-test.true c.with_asked-care.ensures c.with_wanted-want.ensures c.loop-literal.invariant
-
-pub invariant_of-result : goal.invariant_of-result
-invariant_of-result c = record { within = c.loop-literal.invariant.2 }
