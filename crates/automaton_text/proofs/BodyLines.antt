@@ -29,7 +29,8 @@ module _ (s : State) (bytes : List ℕ) (open' : s.ended ≡ false) (past : slic
       ap (option_map kept)
       ((λ i. step_at (open' i) (past i) s bytes) ∙ ap (option_and_then (body_step s)) is ∙ by (line_value f bytes))
     where
-      by : (o : Option (Value PartValue f)) → option_and_then (body_step s) (option_map make o) ≡ option_and_then (λ v. body_step s (make v)) o
+      by : (o : Option (Value PartValue f)) →
+          option_and_then (body_step s) (option_map make o) ≡ option_and_then (λ v. body_step s (make v)) o
       by None = refl
       by (Some v) = refl
 
@@ -59,9 +60,11 @@ module _ (s : State) (bytes : List ℕ) (open' : s.ended ≡ false) (past : slic
           line_value body_line bytes ≡ option_map (λ v. inr (inr v)) (line_value end_line bytes)
       by [] f g = refl
       by (b ∷ bs) f g =
-          ap (λ t. at_end (chosen t (read PartValue leaves edge_line (b ∷ bs)) (read PartValue leaves (choice state_line end_line) (b ∷ bs))))
+          ap (λ t. at_end (chosen t (read PartValue leaves edge_line (b ∷ bs))
+          (read PartValue leaves (choice state_line end_line) (b ∷ bs))))
           (not_first 91 b bs f)
-          ∙ ap (λ t. at_end (mapped (λ v. inr v) (chosen t (read PartValue leaves state_line (b ∷ bs)) (read PartValue leaves end_line (b ∷ bs)))))
+          ∙ ap (λ t. at_end (mapped (λ v. inr v) (chosen t (read PartValue leaves state_line (b ∷ bs))
+          (read PartValue leaves end_line (b ∷ bs)))))
           (not_first 83 b bs g)
           ∙ end_twice (λ v. inr v) (λ v. inr v) (read PartValue leaves end_line (b ∷ bs))
 

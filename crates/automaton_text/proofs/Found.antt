@@ -78,7 +78,8 @@ found_told text k (Ok found) r bits states edges small =
 
 large : (text : List ℕ) (k : State) (r : IsRead text k) (edges : List EdgeTree) → r.full.edges ≡ edges →
     (Large : ℕ → ℕ → List EdgeTree → Type 0) → Large k.bits k.states edges → TellsOf text Large
-large text k r edges same Large is = record { bits = k.bits; states = k.states; edges = edges; told = tells text k r edges same; large = is }
+large text k r edges same Large is =
+    record { bits = k.bits; states = k.states; edges = edges; told = tells text k r edges same; large = is }
 
 refused_by : (text : List ℕ) (k : State) (error : HoaError) → IsRead text k → PassesLimit k error → IsHoaRefusal error text
 refused_by text k (Form line) r passes = absurd passes

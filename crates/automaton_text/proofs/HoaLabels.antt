@@ -66,7 +66,8 @@ values_fit (l ∷ ls) all =
     and_from (fits Literals literal_leaves next_literal (as_value l, tt)) (list_all (fits Literals literal_leaves next_literal) (as_values ls))
     (and_from (fits Numbers number_leaves literal_line (as_value l)) true (value_fits l all.0) refl) (values_fit ls all.1)
 
-pub label_read : (ls : List LiteralTree) → AllByRecursion (λ l. l.bit < number_bound) ls → literals_in (joined (map text_of_literal ls)) ≡ Some ls
+pub label_read : (ls : List LiteralTree) → AllByRecursion (λ l. l.bit < number_bound) ls →
+    literals_in (joined (map text_of_literal ls)) ≡ Some ls
 label_read [] all = refl
 label_read (l ∷ ls) all =
     let fit : fits Literals literal_leaves label_line (inr (as_value l, (as_values ls, tt))) ≡ true =

@@ -38,7 +38,8 @@ head_after s names states (says w) = record s { passed = suc s.passed }
 head_after s names states counts = record s { passed = suc s.passed; states = states }
 head_after s names states lists = record s { passed = suc s.passed; names = names; bits = length names }
 
-module _ (s : State) (names : List (List ℕ)) (states : ℕ) (edges : List EdgeTree) (open' : s.ended ≡ false) (is : IsHoa names states edges) where
+module _ (s : State) (names : List (List ℕ)) (states : ℕ) (edges : List EdgeTree) (open' : s.ended ≡ false)
+    (is : IsHoa names states edges) where
   at_head : (h : Head) → slice_get header s.passed ≡ Some h → step s (head_text names states h) ≡ head_step s h (head_text names states h)
   at_head h here = λ i. step_at (open' i) (here i) s (head_text names states h)
 
@@ -46,7 +47,8 @@ module _ (s : State) (names : List (List ℕ)) (states : ℕ) (edges : List Edge
   bits_fit =
       and_from (ltb (length names) number_bound) (list_all (fits PartValue leaves quoted_name) (as_quoted names) && true)
       (lt-ltb (length names) number_bound is.few_bits)
-      (and_from (list_all (fits PartValue leaves quoted_name) (as_quoted names)) true (quoted_fit (as_quoted names) ∙ ap (list_all is_quotable) (names_are names) ∙ is.plain) refl)
+      (and_from (list_all (fits PartValue leaves quoted_name) (as_quoted names)) true
+      (quoted_fit (as_quoted names) ∙ ap (list_all is_quotable) (names_are names) ∙ is.plain) refl)
 
   states_fit : fits PartValue leaves states_line (states, tt) ≡ true
   states_fit = and_from (ltb states number_bound) true (lt-ltb states number_bound is.few_states) refl
@@ -66,7 +68,8 @@ module _ (s : State) (names : List (List ℕ)) (states : ℕ) (edges : List Edge
       at_head counts here
       ∙ ap (head_step s counts) (sym (states_print states))
       ∙ ap (option_and_then (states_step s)) (line_read PartValue leaves law states_line refl (states, tt) states_fit)
-      ∙ when_true (ltb 0 states) (record s { passed = suc s.passed; states = states }) (lt-ltb 0 states (let some = is.some_state in omega (arith, some)))
+      ∙ when_true (ltb 0 states) (record s { passed = suc s.passed; states = states })
+      (lt-ltb 0 states (let some = is.some_state in omega (arith, some)))
   head_goes lists here =
       at_head lists here
       ∙ ap (head_step s lists) (sym bits_text_is)

@@ -117,7 +117,8 @@ module _ (s : State) (l : List ℕ) (h : Holds s) (open' : s.ended ≡ false) wh
           below = h.below;
           in_order = h.in_order;
         },
-        (λ i. written_of (take_next (header_lines names states) s.passed (head_text names states hd) text i) (lines_of bits s.edges (none.0 i)) (open' i))
+        (λ i. written_of (take_next (header_lines names states) s.passed (head_text names states hd) text i)
+            (lines_of bits s.edges (none.0 i)) (open' i))
             ∙ append-nil (take s.passed (header_lines names states) ++ head_text names states hd ∷ [])
             ∙ (λ i. same i ++ sym is i ∷ [])
             ∙ ap (λ xs. xs ++ l ∷ []) (sym (append-nil head_lines))
@@ -152,12 +153,14 @@ module _ (s : State) (l : List ℕ) (h : Holds s) (open' : s.ended ≡ false) wh
 
     -- one that is not the last
     in_states : (begun : ℕ) (edges : List EdgeTree) → begun ≤ s.states → AllByRecursion (IsEdgeOf (length s.names) s.states) edges →
-        AreBelow begun edges → edges ≡ grouped begun edges → lines_of s.bits edges begun ≡ body_lines ++ l ∷ [] → Next s l (record s { begun = begun; edges = edges })
+        AreBelow begun edges → edges ≡ grouped begun edges → lines_of s.bits edges begun ≡ body_lines ++ l ∷ [] →
+        Next s l (record s { begun = begun; edges = edges })
     in_states begun edges most are below in_order is =
         in_body begun edges s.ended most (λ e. absurd (cc (e, open'))) are below in_order
         ((λ i. written_of head_lines (is i) (open' i)) ∙ sym (append_assoc head_lines body_lines (l ∷ [])))
 
-    edge : (ls : List LiteralTree) (to : ℕ) (rejecting : Bool) → l ≡ edge_text s.bits (edge_with s ls to rejecting) → may_join s ls to ≡ true →
+    edge : (ls : List LiteralTree) (to : ℕ) (rejecting : Bool) → l ≡ edge_text s.bits (edge_with s ls to rejecting) →
+        may_join s ls to ≡ true →
         Next s l (record s { edges = s.edges ++ edge_with s ls to rejecting ∷ [] })
     edge ls to rejecting is join =
         let parts = and_parts (ltb 0 s.begun && leb s.begun s.states) (ltb to s.states && rise s.bits 0 ls) join in
@@ -203,7 +206,8 @@ when_some P true s t each h = let same : s ≡ t = cc in subst P same (each refl
 when_some P false s t each h = absurd cc
 
 -- what holds after each line of a format that is taken
-said : (P : State → Type 0) (t : State) (bytes : List ℕ) (f : Format Part) (test : Value PartValue f → Bool) (to : Value PartValue f → State) →
+said : (P : State → Type 0) (t : State) (bytes : List ℕ) (f : Format Part) (test : Value PartValue f → Bool)
+    (to : Value PartValue f → State) →
     ((v : Value PartValue f) → bytes ≡ line_text f v → fits PartValue leaves f v ≡ true → test v ≡ true → P (to v)) →
     option_and_then (λ v. when (test v) (to v)) (line_value f bytes) ≡ Some t → P t
 said P t bytes f test to each k =

@@ -45,7 +45,13 @@ within_more care want l within = by l.wanted where
 
   by : (w : Bool) → IsWithin (with_bit care l.bit) (if w then with_bit want l.bit else want)
   by true = same_from_bits (bit_and (with_bit want l.bit) (with_bit care l.bit)) (with_bit want l.bit)
-      (λ i. omega (arith, at i, bit_at_and (with_bit want l.bit) (with_bit care l.bit) i, bit_at_or want (2 ^ l.bit) i, bit_at_or care (2 ^ l.bit) i))
+      (λ i. omega (
+        arith,
+        at i,
+        bit_at_and (with_bit want l.bit) (with_bit care l.bit) i,
+        bit_at_or want (2 ^ l.bit) i,
+        bit_at_or care (2 ^ l.bit) i,
+      ))
   by false = same_from_bits (bit_and want (with_bit care l.bit)) want
       (λ i. omega (arith, at i, bit_at_and want (with_bit care l.bit) i, bit_at_or care (2 ^ l.bit) i))
 
@@ -75,7 +81,8 @@ bit_more n k b =
 care_bits : (care : ℕ) (ls : List LiteralTree) (b : ℕ) → has_bit b (care_with care ls) ≡ (has_bit b care || asks ls b)
 care_bits care [] b = sym (or-false (has_bit b care))
 care_bits care (l ∷ ls) b =
-    care_bits (with_bit care l.bit) ls b ∙ ap (λ p. p || asks ls b) (bit_more care l.bit b) ∙ or_assoc (has_bit b care) (l.bit == b) (asks ls b)
+    care_bits (with_bit care l.bit) ls b ∙ ap (λ p. p || asks ls b) (bit_more care l.bit b)
+    ∙ or_assoc (has_bit b care) (l.bit == b) (asks ls b)
 
 want_bits : (want : ℕ) (ls : List LiteralTree) (b : ℕ) → has_bit b (want_with want ls) ≡ (has_bit b want || wants ls b)
 want_bits want [] b = sym (or-false (has_bit b want))
@@ -128,7 +135,8 @@ literals_from want bs = map (λ b. record { bit = b; wanted = has_bit b want }) 
 
 -- literals in order are those of the bits that they ask for and want
 literals_are : (bits least count want : ℕ) (p : ℕ → Bool) (ls : List LiteralTree) → least + count ≡ bits → rise bits least ls ≡ true →
-    ((b : ℕ) → least ≤ b → (p b ≡ asks ls b) × (has_bit b want ≡ wants ls b)) → literals_from want (filter p (numbers_from least count)) ≡ ls
+    ((b : ℕ) → least ≤ b → (p b ≡ asks ls b) × (has_bit b want ≡ wants ls b)) →
+    literals_from want (filter p (numbers_from least count)) ≡ ls
 literals_are bits least zero want p [] sum up same = refl
 literals_are bits least zero want p (l ∷ ls) sum up same =
     let parts = rise_parts bits least l ls up in absurd (omega (arith, parts.0, parts.1, sum))
@@ -181,7 +189,8 @@ pub literals_written : (bits : ℕ) (ls : List LiteralTree) → rise bits 0 ls �
 literals_written bits ls up =
     sym (texts_from (want_with 0 ls) (bits_asked bits (care_with 0 ls)))
     ∙ ap (map text_of_literal)
-    (literals_are bits 0 bits (want_with 0 ls) (λ b. has_bit b (care_with 0 ls)) ls (omega arith) up (λ b above. (care_has ls b, want_has ls b)))
+    (literals_are bits 0 bits (want_with 0 ls) (λ b. has_bit b (care_with 0 ls)) ls (omega arith) up
+    (λ b above. (care_has ls b, want_has ls b)))
 
 -- the cube of literals below a bound is below its power of two
 pub care_below : (bits least care : ℕ) (ls : List LiteralTree) → care < 2 ^ bits → rise bits least ls ≡ true → care_with care ls < 2 ^ bits
@@ -212,7 +221,8 @@ rise_from : (want : ℕ) (p : ℕ → Bool) (bits low least count : ℕ) → low
 rise_from want p bits low least zero from within = refl
 rise_from want p bits low least (suc count) from within =
     cond_both (p least) (least ∷ rest) rest (λ bs. rise bits low (literals_from want bs) ≡ true)
-    (λ asked. rise_more bits low (record { bit = least; wanted = has_bit least want }) (literals_from want rest) from (omega (arith, within))
+    (λ asked. rise_more bits low (record { bit = least; wanted = has_bit least want }) (literals_from want rest) from
+    (omega (arith, within))
     (rise_from want p bits (suc least) (suc least) count (omega arith) (omega (arith, within))))
     (λ skipped. rise_from want p bits low (suc least) count (omega (arith, from)) (omega (arith, within)))
   where

@@ -111,7 +111,8 @@ some_literals bytes rest l h k =
     no_t bytes h
     ∙ ap (λ o. option_map literals_of (at_end (mapped inr (then_read o (read Literals literal_leaves more_literals))))) k
     ∙ by (read Literals literal_leaves more_literals rest)
-    ∙ ap (λ t. option_map (λ v. t ∷ further_literals v) (value_of_line Literals literal_leaves more_literals rest)) (value_is (literal_tree l))
+    ∙ ap (λ t. option_map (λ v. t ∷ further_literals v) (value_of_line Literals literal_leaves more_literals rest))
+    (value_is (literal_tree l))
   where
     by : (o : Option ((List (LiteralValue × Unit {0}) × Unit {0}) × List ℕ)) →
         option_map literals_of (at_end (mapped inr (with_first (literal_value l) o)))
