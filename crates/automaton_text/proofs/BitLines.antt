@@ -2,7 +2,7 @@
 use Rattle.std.proofs.Common.{◌≡◌, ◌∙◌, ℕ, suc, ◌+◌, Bool, true, false, eqb, List, [], ◌∷◌, length, Option, Some, None}
 use Rattle.std.proofs.Common.{refl, sym, ap, arith, codes, inl, inr}
 use Rattle.std.specs.Prelude.{option_map, option_and_then, if◌then◌else◌}
-use Rattle.std.proofs.lemmas.Bool.{eqb-true}
+use Rattle.std.proofs.lemmas.Bool.{eqb-true, ne_eqb}
 use Rattle.line_formats.specs.Format.{fixed, nothing, has, one_byte, strip, at_end, mapped, chosen, read}
 use Rattle.line_formats.proofs.FormatLaws.{IsLeaf, many_more, many_none, many_end}
 use Rattle.line_formats.proofs.LeafLaws.{number_is_leaf, run_is_leaf}
@@ -47,12 +47,10 @@ mark_by b bs o h = by (has (one_byte 32) b) refl where
   by : (t : Bool) → has (one_byte 32) b ≡ t →
       at_end (chosen t (read PartValue leaves (fixed (codes " {0}") nothing) (b ∷ bs)) (Some (tt {0}, b ∷ bs))) ≡ option_map inl o
   by true e = end_mapped inl (read PartValue leaves (fixed (codes " {0}") nothing) (b ∷ bs)) ∙ ap (option_map inl) h
-  by false e = ap (option_map inl) (sym (nothing_there (eqb 32 b) refl) ∙ h)
-    where
-      nothing_there : (t : Bool) → eqb 32 b ≡ t → line_value (word_line (codes " {0}")) (b ∷ bs) ≡ None
-      nothing_there true f = absurd (cc (e, eqb-true 32 b f))
-      nothing_there false f =
-          ap (λ t. at_end (option_and_then (read PartValue leaves nothing) (if t then strip (codes "{0}") bs else None))) f
+  by false e =
+      let other = ne_eqb 32 b (λ f. let there : true ≡ false = ap (has (one_byte 32)) f ∙ e in absurd cc) in
+      ap (option_map inl)
+      (sym (ap (λ t. at_end (option_and_then (read PartValue leaves nothing) (if t then strip (codes "{0}") bs else None))) other) ∙ h)
 
 pub marked : (bytes : List ℕ) → eqb (length bytes) 0 ≡ false → line_value (word_line (codes " {0}")) bytes ≡ Some tt →
     line_value mark bytes ≡ Some (inl tt)

@@ -1,13 +1,15 @@
 -- What a reader found is the automaton that the text tells, or the refusal that it deserves.
-use Rattle.std.proofs.Common.{◌≡◌, ◌∙◌, ℕ, ◌<◌, ◌≤◌, Bool, true, false, leb, List, [], ◌∷◌, length, All, Result, Ok, Err, refl, sym, ap, subst, arith}
+use Rattle.std.proofs.Common.{◌≡◌, ◌∙◌, ℕ, ◌<◌, ◌≤◌, true, leb, List, [], length, All, Result, Ok, Err, refl, sym, ap, subst, arith}
 use Rattle.std.specs.Prelude.{IfOk, IfErr, if◌then◌else◌}
 use Rattle.std.specs.List.{AllByRecursion}
-use Rattle.std.proofs.lemmas.Bool.{and_from, le-leb}
+use Rattle.std.proofs.lemmas.Bool.{and_from, cond_both, le-leb}
+use Rattle.std.proofs.lemmas.Result.{IfErr-at_err}
+use Rattle.sequence.proofs.Each.{each_weaker, each_unmapped}
 use Rattle.std.proofs.lemmas.List.Elements.{All-from_recursion}
 use Rattle.line_formats.specs.Machine.{IsFirstWrong}
 use Rattle.letter_space.specs.declared.limits.TheConstants.{MOST_BITS}
 use Rattle.cobuchi_automata.specs.Automata.{EdgeTree}
-use Rattle.cobuchi_automata.specs.Edges.{edge_trees, IsBetween}
+use Rattle.cobuchi_automata.specs.Edges.{edge_tree, edge_trees, IsBetween}
 use Rattle.cobuchi_automata.specs.Refusals.{most_automaton_states}
 use Rattle.cobuchi_automata.specs.declared.automaton.Edge.{Edge}
 use Rattle.automaton_text.specs.declared.hoa_error.HoaError.{HoaError}
@@ -16,7 +18,7 @@ use Rattle.automaton_text.specs.declared.reader.Hoa.{Hoa}
 use Rattle.automaton_text.specs.declared.reader.HoaReader.{HoaReader}
 use Rattle.automaton_text.specs.HoaText.{IsEdgeOf, IsHoaText}
 use Rattle.automaton_text.specs.HoaLines.{State, step, whole, fresh}
-use Rattle.automaton_text.specs.HoaRefusals.{IsHoaRefusal, IsSmall}
+use Rattle.automaton_text.specs.HoaRefusals.{IsHoaRefusal, IsSmall, TellsOf}
 use Rattle.automaton_text.specs.HoaView.{are_few, kept_edges, edges_read, reader_state}
 use Rattle.automaton_text.specs.internal.Limits.{HasAutomaton, PassesLimit}
 use Rattle.automaton_text.proofs.HoaKept.{IsRead}
@@ -30,22 +32,15 @@ few_is bits states b s =
 abbrev Joins : ℕ → EdgeTree → Type 0
 Joins n e = (e.from < n) × (e.to < n)
 
-joins_kept : (b : Bool) (n : ℕ) (edges : List EdgeTree) → AllByRecursion (Joins n) edges →
-    AllByRecursion (Joins n) (if b then edges else [])
-joins_kept true n edges all = all
-joins_kept false n edges all = tt
-
-joins_of : (bits n : ℕ) (edges : List EdgeTree) → AllByRecursion (IsEdgeOf bits n) edges → AllByRecursion (Joins n) edges
-joins_of bits n [] all = tt
-joins_of bits n (e ∷ edges) all = ((all.0.from, all.0.to), joins_of bits n edges all.1)
-
 pub has_automaton : (text : List ℕ) (k : State) → IsRead text k → HasAutomaton k
 has_automaton text k r =
     subst HasAutomaton r.is (record {
       passed = passed_all r.full r.holds r.ended;
       some_state = r.holds.told.some_state;
-      between = joins_kept (are_few r.full.bits r.full.states) r.full.states r.full.edges
-          (joins_of (length r.full.names) r.full.states r.full.edges r.holds.told.are_edges);
+      between = cond_both (are_few r.full.bits r.full.states) r.full.edges [] (AllByRecursion (Joins r.full.states))
+          (λ few. each_weaker (IsEdgeOf (length r.full.names) r.full.states) (Joins r.full.states) (λ e is. (is.from, is.to)) r.full.edges
+          r.holds.told.are_edges)
+          (λ many. tt);
     })
 
 -- the edges that a reader within the limits has are between its states
@@ -57,27 +52,18 @@ edges_between r items are has few_bits few_states =
     ap (λ b. if b then edges_read r else []) (few_is r.bits r.states few_bits few_states)
     ∙ edges_past r (omega (arith, passed))
     ∙ ap edge_trees (sym are) in
-    All-from_recursion (IsBetween r.states) items (edges_join items (subst (AllByRecursion (Joins r.states)) whole_edges has.between))
-  where
-    edges_join : (items : List Edge) → AllByRecursion (Joins r.states) (edge_trees items) → AllByRecursion (IsBetween r.states) items
-    edges_join [] all = tt
-    edges_join (e ∷ items) all = (all.0, edges_join items all.1)
+    All-from_recursion (IsBetween r.states) items
+    (each_unmapped (Joins r.states) edge_tree items (subst (AllByRecursion (Joins r.states)) whole_edges has.between))
 
 -- within the limits all edges are kept
 all_kept : (text : List ℕ) (k : State) (r : IsRead text k) → k.bits ≤ MOST_BITS → k.states ≤ most_automaton_states → r.full.edges ≡ k.edges
-all_kept text k r few_bits few_states =
-    let bits : r.full.bits ≡ k.bits = ap (λ (s : State). s.bits) r.is in
-    let states : r.full.states ≡ k.states = ap (λ (s : State). s.states) r.is in
-    sym (ap (λ b. if b then r.full.edges else [])
-    (few_is r.full.bits r.full.states (subst (λ n. n ≤ MOST_BITS) (sym bits) few_bits)
-    (subst (λ n. n ≤ most_automaton_states) (sym states) few_states)))
-    ∙ ap (λ (s : State). s.edges) r.is
+all_kept text k r =
+    subst (λ (s : State). s.bits ≤ MOST_BITS → s.states ≤ most_automaton_states → r.full.edges ≡ s.edges) r.is
+    (λ few_bits few_states. sym (ap (λ b. if b then r.full.edges else []) (few_is r.full.bits r.full.states few_bits few_states)))
 
 tells : (text : List ℕ) (k : State) (r : IsRead text k) → (edges : List EdgeTree) → r.full.edges ≡ edges → IsHoaText text k.bits k.states edges
 tells text k r edges same =
-    subst (λ b. IsHoaText text b k.states edges) (ap (λ (s : State). s.bits) r.is)
-    (subst (λ n. IsHoaText text r.full.bits n edges) (ap (λ (s : State). s.states) r.is)
-    (subst (IsHoaText text r.full.bits r.full.states) same r.told))
+    subst (λ (s : State). IsHoaText text s.bits s.states edges) r.is (subst (IsHoaText text r.full.bits r.full.states) same r.told)
 
 pub found_told : (text : List ℕ) (k : State) (result : Result Hoa HoaError) → IsRead text k → IfOk result (λ found. found.bits ≡ k.bits) →
     IfOk result (λ found. found.automaton.states ≡ k.states) → IfOk result (λ found. edge_trees found.automaton.edges ≡ k.edges) →
@@ -90,37 +76,21 @@ found_told text k (Ok found) r bits states edges small =
     (subst (IsHoaText text k.bits k.states) (sym edges)
     (tells text k r k.edges (all_kept text k r small.few_bits small.few_states))))
 
+large : (text : List ℕ) (k : State) (r : IsRead text k) (edges : List EdgeTree) → r.full.edges ≡ edges →
+    (Large : ℕ → ℕ → List EdgeTree → Type 0) → Large k.bits k.states edges → TellsOf text Large
+large text k r edges same Large is =
+    record { bits = k.bits; states = k.states; edges = edges; told = tells text k r edges same; large = is }
+
 refused_by : (text : List ℕ) (k : State) (error : HoaError) → IsRead text k → PassesLimit k error → IsHoaRefusal error text
 refused_by text k (Form line) r passes = absurd passes
-refused_by text k Bits r passes = record {
-  bits = k.bits;
-  states = k.states;
-  edges = r.full.edges;
-  told = tells text k r r.full.edges refl;
-  large = passes;
-}
-refused_by text k States r passes = record {
-  bits = k.bits;
-  states = k.states;
-  edges = r.full.edges;
-  told = tells text k r r.full.edges refl;
-  large = passes;
-}
-refused_by text k Edges r passes = record {
-  bits = k.bits;
-  states = k.states;
-  edges = k.edges;
-  told = tells text k r k.edges (all_kept text k r passes.0 passes.1);
-  large = passes;
-}
+refused_by text k Bits r passes = large text k r r.full.edges refl _ passes
+refused_by text k States r passes = large text k r r.full.edges refl _ passes
+refused_by text k Edges r passes = large text k r k.edges (all_kept text k r passes.0 passes.1) _ passes
 refused_by text k NoMemory r passes = absurd passes
 
 pub found_refused : (text : List ℕ) (k : State) (result : Result Hoa HoaError) (error : HoaError) → IsRead text k →
     IfErr result (PassesLimit k) → result ≡ Err error → IsHoaRefusal error text
-found_refused text k result error r limit is = refused_by text k error r (passed result limit is) where
-  passed : (result : Result Hoa HoaError) → IfErr result (PassesLimit k) → result ≡ Err error → PassesLimit k error
-  passed (Ok found) limit is = absurd cc
-  passed (Err e) limit is = let same : e ≡ error = cc in subst (PassesLimit k) same limit
+found_refused text k result error r limit is = refused_by text k error r (IfErr-at_err (PassesLimit k) is limit)
 
 pub form_refused : (text : List ℕ) (line : ℕ) (error : HoaError) → IsFirstWrong step whole fresh text line →
     (result : Result Hoa HoaError) → result ≡ Err (Form line) → result ≡ Err error → IsHoaRefusal error text

@@ -1,9 +1,9 @@
 -- From what the lines say, as far as they are right, some lines lead to the end; so a fault is the first wrong line.
-use Rattle.std.proofs.Common.{◌≡◌, ◌∙◌, ℕ, suc, ◌+◌, ◌-◌, ◌<◌, ◌≤◌, ◌==◌, Bool, true, false, ◌&&◌, ltb, List, [], ◌∷◌, length}
+use Rattle.std.proofs.Common.{◌≡◌, ◌∙◌, ℕ, suc, ◌+◌, ◌-◌, ◌<◌, ◌≤◌, ◌==◌, Bool, true, false, ◌&&◌, ltb, List, length}
 use Rattle.std.proofs.Common.{Option, Some, None, Err, slice_get, refl, sym, ap, subst, arith, append-nil, codes, inl, inr, ◌⊎◌}
 use Rattle.std.specs.Prelude.{option_and_then, if◌then◌else◌}
 use Rattle.std.specs.List.{list_all}
-use Rattle.std.proofs.lemmas.Bool.{and_from, and_parts, lt-ltb, eq-eqb, cases_lt}
+use Rattle.std.proofs.lemmas.Bool.{and_from, lt-ltb, eq-eqb, cases_lt}
 use Rattle.sequence.proofs.Passes.{passes_at}
 use Rattle.tsl_text.specs.Lines.{lines_from}
 use Rattle.tsl_text.specs.Written.{is_line}
@@ -17,7 +17,7 @@ use Rattle.automaton_text.specs.HoaLines.{PartValue, leaves, word_line, states_l
 use Rattle.automaton_text.specs.HoaLines.{line_value, line_text, Head, says, counts, lists, header, State, fresh, when, states_step, bits_step}
 use Rattle.automaton_text.specs.HoaLines.{head_step, body_step, step_at, step, whole}
 use Rattle.automaton_text.proofs.BitLines.{law}
-use Rattle.automaton_text.proofs.HoaLabels.{states_print, state_print, bits_print, as_quoted, names_are}
+use Rattle.automaton_text.proofs.HoaLabels.{states_print, state_print, bits_print, as_quoted, names_are, quoted_fit}
 use Rattle.automaton_text.proofs.HoaSteps.{Holds, holds_first, kept, head_text, head_within}
 
 pub when_true : (b : Bool) (s : State) → b ≡ true → when b s ≡ Some s
@@ -38,15 +38,8 @@ head_after s names states (says w) = record s { passed = suc s.passed }
 head_after s names states counts = record s { passed = suc s.passed; states = states }
 head_after s names states lists = record s { passed = suc s.passed; names = names; bits = length names }
 
-as_quoted_fit : (names : List (List ℕ)) → list_all is_quotable names ≡ true →
-    list_all (fits PartValue leaves quoted_name) (as_quoted names) ≡ true
-as_quoted_fit [] all = refl
-as_quoted_fit (n ∷ names) all =
-    let parts = and_parts (is_quotable n) (list_all is_quotable names) all in
-    and_from (fits PartValue leaves quoted_name (n, tt)) (list_all (fits PartValue leaves quoted_name) (as_quoted names))
-    (and_from (is_quotable n && true) true (and_from (is_quotable n) true parts.0 refl) refl) (as_quoted_fit names parts.1)
-
-module _ (s : State) (names : List (List ℕ)) (states : ℕ) (edges : List EdgeTree) (open' : s.ended ≡ false) (is : IsHoa names states edges) where
+module _ (s : State) (names : List (List ℕ)) (states : ℕ) (edges : List EdgeTree) (open' : s.ended ≡ false)
+    (is : IsHoa names states edges) where
   at_head : (h : Head) → slice_get header s.passed ≡ Some h → step s (head_text names states h) ≡ head_step s h (head_text names states h)
   at_head h here = λ i. step_at (open' i) (here i) s (head_text names states h)
 
@@ -54,7 +47,8 @@ module _ (s : State) (names : List (List ℕ)) (states : ℕ) (edges : List Edge
   bits_fit =
       and_from (ltb (length names) number_bound) (list_all (fits PartValue leaves quoted_name) (as_quoted names) && true)
       (lt-ltb (length names) number_bound is.few_bits)
-      (and_from (list_all (fits PartValue leaves quoted_name) (as_quoted names)) true (as_quoted_fit names is.plain) refl)
+      (and_from (list_all (fits PartValue leaves quoted_name) (as_quoted names)) true
+      (quoted_fit (as_quoted names) ∙ ap (list_all is_quotable) (names_are names) ∙ is.plain) refl)
 
   states_fit : fits PartValue leaves states_line (states, tt) ≡ true
   states_fit = and_from (ltb states number_bound) true (lt-ltb states number_bound is.few_states) refl
@@ -74,7 +68,8 @@ module _ (s : State) (names : List (List ℕ)) (states : ℕ) (edges : List Edge
       at_head counts here
       ∙ ap (head_step s counts) (sym (states_print states))
       ∙ ap (option_and_then (states_step s)) (line_read PartValue leaves law states_line refl (states, tt) states_fit)
-      ∙ when_true (ltb 0 states) (record s { passed = suc s.passed; states = states }) (lt-ltb 0 states (let some = is.some_state in omega (arith, some)))
+      ∙ when_true (ltb 0 states) (record s { passed = suc s.passed; states = states })
+      (lt-ltb 0 states (let some = is.some_state in omega (arith, some)))
   head_goes lists here =
       at_head lists here
       ∙ ap (head_step s lists) (sym bits_text_is)

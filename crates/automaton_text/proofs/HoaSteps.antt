@@ -1,10 +1,10 @@
 -- What each line of an automaton's text adds, and what holds of the lines so far.
 use Rattle.std.proofs.Common.{◌≡◌, ◌∙◌, ℕ, zero, suc, ◌-◌, ◌<◌, ◌≤◌, ◌^◌, ◌==◌, Bool, true, false, ◌&&◌, eqb, ltb, leb}
-use Rattle.std.proofs.Common.{List, [], ◌∷◌, ◌++◌, length, map, take, Option, Some, None, slice_get, refl, sym, ap, subst, append_assoc, append-nil}
+use Rattle.std.proofs.Common.{List, [], ◌∷◌, ◌++◌, length, take, Option, Some, None, slice_get, refl, sym, ap, subst, append_assoc, append-nil}
 use Rattle.std.proofs.Common.{arith, codes, ◌⊎◌, inl, inr, Ok}
 use Rattle.std.specs.Prelude.{option_map, option_and_then, decimal}
 use Rattle.std.specs.List.{list_all, AllByRecursion}
-use Rattle.std.proofs.lemmas.Bool.{and_parts, and_from, eqb-true, ltb-true, cases_lt}
+use Rattle.std.proofs.lemmas.Bool.{and_parts, eqb-true, ltb-true, cases_lt}
 use Rattle.std.proofs.lemmas.Nat.{pow_pos}
 use Rattle.std.proofs.lemmas.Option.{slice_get-map, slice_get_within}
 use Rattle.sequence.proofs.Each.{each_joined, each_weaker}
@@ -17,14 +17,14 @@ use Rattle.line_formats.proofs.FormatLaws.{and_then_some, line_written}
 use Rattle.line_formats.proofs.MachineLaws.{read_is_text, says_written, holds_after}
 use Rattle.cobuchi_automata.specs.Automata.{EdgeTree}
 use Rattle.automaton_text.specs.HoaText.{joined, label_text, mark_text, edge_text, states_text, state_text, bits_text, header_lines}
-use Rattle.automaton_text.specs.HoaText.{number_bound, is_quotable, IsEdgeOf, IsHoa, IsHoaText, grouped}
+use Rattle.automaton_text.specs.HoaText.{number_bound, IsEdgeOf, IsHoa, IsHoaText, grouped}
 use Rattle.automaton_text.specs.HoaLines.{Part, PartValue, leaves, line_text, word_line, states_line, bits_line, edge_line, body_line}
 use Rattle.automaton_text.specs.HoaLines.{line_value, quoted_name, quoted_names, is_marked, LiteralTree, literals_in, rise, care_with, Head}
 use Rattle.automaton_text.specs.HoaLines.{says, counts, lists, header, State, fresh, when, head_step, edge_with}
 use Rattle.automaton_text.specs.HoaLines.{may_join, edge_step, body_step, step_at, step, whole}
 use Rattle.automaton_text.proofs.BitLines.{law}
 use Rattle.automaton_text.proofs.LabelBits.{cube_within, literals_written, care_below}
-use Rattle.automaton_text.proofs.HoaLabels.{label_written, states_print, state_print, bits_print, edge_print}
+use Rattle.automaton_text.proofs.HoaLabels.{quoted_fit, label_written, states_print, state_print, bits_print, edge_print}
 use Rattle.automaton_text.proofs.HoaGroups.{AreBelow, state_grouped, edge_grouped, lines_of, state_lined, edge_lined}
 
 -- ---- places in the header
@@ -117,7 +117,8 @@ module _ (s : State) (l : List ℕ) (h : Holds s) (open' : s.ended ≡ false) wh
           below = h.below;
           in_order = h.in_order;
         },
-        (λ i. written_of (take_next (header_lines names states) s.passed (head_text names states hd) text i) (lines_of bits s.edges (none.0 i)) (open' i))
+        (λ i. written_of (take_next (header_lines names states) s.passed (head_text names states hd) text i)
+            (lines_of bits s.edges (none.0 i)) (open' i))
             ∙ append-nil (take s.passed (header_lines names states) ++ head_text names states hd ∷ [])
             ∙ (λ i. same i ++ sym is i ∷ [])
             ∙ ap (λ xs. xs ++ l ∷ []) (sym (append-nil head_lines))
@@ -152,12 +153,14 @@ module _ (s : State) (l : List ℕ) (h : Holds s) (open' : s.ended ≡ false) wh
 
     -- one that is not the last
     in_states : (begun : ℕ) (edges : List EdgeTree) → begun ≤ s.states → AllByRecursion (IsEdgeOf (length s.names) s.states) edges →
-        AreBelow begun edges → edges ≡ grouped begun edges → lines_of s.bits edges begun ≡ body_lines ++ l ∷ [] → Next s l (record s { begun = begun; edges = edges })
+        AreBelow begun edges → edges ≡ grouped begun edges → lines_of s.bits edges begun ≡ body_lines ++ l ∷ [] →
+        Next s l (record s { begun = begun; edges = edges })
     in_states begun edges most are below in_order is =
         in_body begun edges s.ended most (λ e. absurd (cc (e, open'))) are below in_order
         ((λ i. written_of head_lines (is i) (open' i)) ∙ sym (append_assoc head_lines body_lines (l ∷ [])))
 
-    edge : (ls : List LiteralTree) (to : ℕ) (rejecting : Bool) → l ≡ edge_text s.bits (edge_with s ls to rejecting) → may_join s ls to ≡ true →
+    edge : (ls : List LiteralTree) (to : ℕ) (rejecting : Bool) → l ≡ edge_text s.bits (edge_with s ls to rejecting) →
+        may_join s ls to ≡ true →
         Next s l (record s { edges = s.edges ++ edge_with s ls to rejecting ∷ [] })
     edge ls to rejecting is join =
         let parts = and_parts (ltb 0 s.begun && leb s.begun s.states) (ltb to s.states && rise s.bits 0 ls) join in
@@ -203,22 +206,14 @@ when_some P true s t each h = let same : s ≡ t = cc in subst P same (each refl
 when_some P false s t each h = absurd cc
 
 -- what holds after each line of a format that is taken
-said : (P : State → Type 0) (t : State) (bytes : List ℕ) (f : Format Part) (test : Value PartValue f → Bool) (to : Value PartValue f → State) →
+said : (P : State → Type 0) (t : State) (bytes : List ℕ) (f : Format Part) (test : Value PartValue f → Bool)
+    (to : Value PartValue f → State) →
     ((v : Value PartValue f) → bytes ≡ line_text f v → fits PartValue leaves f v ≡ true → test v ≡ true → P (to v)) →
     option_and_then (λ v. when (test v) (to v)) (line_value f bytes) ≡ Some t → P t
 said P t bytes f test to each k =
     let found = and_then_some (line_value f bytes) (λ v. when (test v) (to v)) t k in
     let is = line_written PartValue leaves law f bytes found.0 found.1 in
     when_some P (test found.0) (to found.0) t (each found.0 is.0 is.1) found.2
-
-quoted_fit : (vs : List (List ℕ × Unit {0})) → list_all (fits PartValue leaves quoted_name) vs ≡ true →
-    list_all is_quotable (map (λ (n : List ℕ × Unit {0}). n.0) vs) ≡ true
-quoted_fit [] h = refl
-quoted_fit (v ∷ vs) h =
-    let parts = and_parts (fits PartValue leaves quoted_name v) (list_all (fits PartValue leaves quoted_name) vs) h in
-    and_from (is_quotable v.0) (list_all is_quotable (map (λ (n : List ℕ × Unit {0}). n.0) vs))
-    (and_parts (is_quotable v.0) true (and_parts (is_quotable v.0 && true) true parts.0).0).0
-    (quoted_fit vs parts.1)
 
 label_of_edge : (s : State) (ls : List LiteralTree) (to : ℕ) (r : Bool) → rise s.bits 0 ls ≡ true →
     (label : List ℕ) → literals_in label ≡ Some ls → label ≡ label_text s.bits (edge_with s ls to r)
@@ -252,7 +247,7 @@ next s t l h e = by_end s.ended refl e where
       let parts = and_parts (ltb v.0 number_bound) (list_all (fits PartValue leaves quoted_name) v.1.0 && true) fit in
       in_header s l h open' lists (quoted_names v.1) s.states (length (quoted_names v.1)) here (is ∙ bits_print v same) refl
       (record {
-        plain = quoted_fit v.1.0 (and_parts (list_all (fits PartValue leaves quoted_name) v.1.0) true parts.1).0;
+        plain = sym (quoted_fit v.1.0) ∙ (and_parts (list_all (fits PartValue leaves quoted_name) v.1.0) true parts.1).0;
         few_bits = subst (λ n. n < number_bound) same (ltb-true v.0 number_bound parts.0);
         some_state = h.told.some_state;
         few_states = h.told.few_states;

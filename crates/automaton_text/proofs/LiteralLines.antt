@@ -1,9 +1,11 @@
 -- Labels, part by part.
-use Rattle.std.proofs.Common.{◌≡◌, ◌∙◌, ℕ, suc, Bool, true, false, ◌&&◌, ◌||◌, eqb, leb, List, [], ◌∷◌, ◌++◌, length, Option, Some, None}
-use Rattle.std.proofs.Common.{refl, sym, ap, subst, append_assoc, append-nil, arith, codes, inl, inr}
+use Rattle.std.proofs.Common.{◌≡◌, ◌∙◌, ℕ, suc, Bool, true, false, ◌&&◌, eqb, leb, List, [], ◌∷◌, ◌++◌, length, Option, Some, None}
+use Rattle.std.proofs.Common.{refl, sym, ap, append_assoc, append-nil, arith, codes, inl, inr}
 use Rattle.std.specs.Prelude.{option_map, if◌then◌else◌}
 use Rattle.std.proofs.lemmas.List.{map-append}
-use Rattle.std.proofs.lemmas.Bool.{eqb-true, leb-true}
+use Rattle.std.proofs.lemmas.Bool.{and_parts, eq-eqb, eqb-true, false_from_ne_true, leb-true}
+use Rattle.std.proofs.lemmas.Option.{none-some}
+use Rattle.std.proofs.Math.Bool.{or-false}
 use Rattle.line_formats.specs.Format.{fixed, leaf, nothing, has, one_byte, strip, at_end, mapped, chosen, then_read, with_first, read, value_of_line}
 use Rattle.line_formats.specs.Leaves.{first_number}
 use Rattle.line_formats.proofs.FormatLaws.{IsLeaf, sound, first, again, print_is_line, strip_sound, many_more, many_none, many_end}
@@ -29,11 +31,15 @@ literal_law i = literal_is_leaf
 
 -- the only byte of a set of one
 pub only_byte : (n b : ℕ) → has (one_byte n) b ≡ true → b ≡ n
-only_byte n b e = range (leb n b) (leb b n) refl refl e where
-  range : (p q : Bool) → leb n b ≡ p → leb b n ≡ q → ((p && q) || false) ≡ true → b ≡ n
-  range true true f g e = omega (arith, leb-true n b f, leb-true b n g)
-  range true false f g e = absurd cc
-  range false q f g e = absurd cc
+only_byte n b e =
+    let parts = and_parts (leb n b) (leb b n) (sym (or-false (leb n b && leb b n)) ∙ e) in
+    omega (arith, leb-true n b parts.0, leb-true b n parts.1)
+
+-- a byte that does not stand first
+pub not_first : (n b : ℕ) (bs : List ℕ) → strip (n ∷ []) (b ∷ bs) ≡ None → has (one_byte n) b ≡ false
+not_first n b bs h =
+    false_from_ne_true (has (one_byte n) b)
+    (λ e. let found = ap (λ t. if t then Some bs else None) (eq-eqb n b (sym (only_byte n b e))) in absurd (none-some bs (sym h ∙ found)))
 
 -- ---- one literal
 
@@ -47,13 +53,9 @@ negative bytes rest h = ap (read Numbers number_leaves literal_line) (strip_soun
 positive : (bytes : List ℕ) → strip (codes "!") bytes ≡ None →
     read Numbers number_leaves literal_line bytes ≡ mapped inr (then_end (first_number bytes))
 positive [] h = refl
-positive (b ∷ bs) h = by (has (one_byte 33) b) refl where
-  by : (t : Bool) → has (one_byte 33) b ≡ t →
-      chosen t (read Numbers number_leaves (fixed (codes "!") (leaf tt nothing)) (b ∷ bs)) (then_end (first_number (b ∷ bs)))
-      ≡ mapped inr (then_end (first_number (b ∷ bs)))
-  by false e = refl
-  by true e =
-      let k : strip (codes "!") (33 ∷ bs) ≡ None = subst (λ c. strip (codes "!") (c ∷ bs) ≡ None) (only_byte 33 b e) h in absurd (cc k)
+positive (b ∷ bs) h =
+    ap (λ t. chosen t (read Numbers number_leaves (fixed (codes "!") (leaf tt nothing)) (b ∷ bs)) (then_end (first_number (b ∷ bs))))
+    (not_first 33 b bs h)
 
 pub negative_some : (bytes rest after : List ℕ) (n : ℕ) → strip (codes "!") bytes ≡ Some rest → first_number rest ≡ Some (n, after) →
     read Numbers number_leaves literal_line bytes ≡ Some (inl (n, tt), after)
@@ -71,8 +73,11 @@ pub positive_none : (bytes : List ℕ) → strip (codes "!") bytes ≡ None → 
     read Numbers number_leaves literal_line bytes ≡ None
 positive_none bytes h k = positive bytes h ∙ ap (λ o. mapped inr (then_end o)) k
 
-same_literal : (l : Literal) → literal_of (literal_value l) ≡ literal_tree l
-same_literal l = by l.wanted where
+abbrev pub as_value : LiteralTree → LiteralValue
+as_value l = if l.wanted then inr (l.bit, tt) else inl (l.bit, tt)
+
+pub value_is : (l : LiteralTree) → literal_of (as_value l) ≡ l
+value_is l = by l.wanted where
   by : (w : Bool) → literal_of (if w then inr (l.bit, tt) else inl (l.bit, tt)) ≡ record { bit = l.bit; wanted = w }
   by true = refl
   by false = refl
@@ -94,15 +99,10 @@ no_t : (bytes : List ℕ) → strip (codes "t") bytes ≡ None →
     literals_in bytes
     ≡ option_map literals_of (at_end (mapped inr (then_read (literal.read bytes) (read Literals literal_leaves more_literals))))
 no_t [] h = refl
-no_t (b ∷ bs) h = by (has (one_byte 116) b) refl where
-  by : (t : Bool) → has (one_byte 116) b ≡ t →
-      option_map literals_of
-      (at_end (chosen t (read Literals literal_leaves (fixed (codes "t") nothing) (b ∷ bs))
-      (then_read (literal.read (b ∷ bs)) (read Literals literal_leaves more_literals))))
-      ≡ option_map literals_of (at_end (mapped inr (then_read (literal.read (b ∷ bs)) (read Literals literal_leaves more_literals))))
-  by false e = refl
-  by true e =
-      let k : strip (codes "t") (116 ∷ bs) ≡ None = subst (λ c. strip (codes "t") (c ∷ bs) ≡ None) (only_byte 116 b e) h in absurd (cc k)
+no_t (b ∷ bs) h =
+    ap (λ t. option_map literals_of (at_end (chosen t (read Literals literal_leaves (fixed (codes "t") nothing) (b ∷ bs))
+    (then_read (literal.read (b ∷ bs)) (read Literals literal_leaves more_literals)))))
+    (not_first 116 b bs h)
 
 pub some_literals : (bytes rest : List ℕ) (l : Literal) → strip (codes "t") bytes ≡ None →
     read Numbers number_leaves literal_line bytes ≡ Some (literal_value l, rest) →
@@ -111,7 +111,8 @@ some_literals bytes rest l h k =
     no_t bytes h
     ∙ ap (λ o. option_map literals_of (at_end (mapped inr (then_read o (read Literals literal_leaves more_literals))))) k
     ∙ by (read Literals literal_leaves more_literals rest)
-    ∙ ap (λ t. option_map (λ v. t ∷ further_literals v) (value_of_line Literals literal_leaves more_literals rest)) (same_literal l)
+    ∙ ap (λ t. option_map (λ v. t ∷ further_literals v) (value_of_line Literals literal_leaves more_literals rest))
+    (value_is (literal_tree l))
   where
     by : (o : Option ((List (LiteralValue × Unit {0}) × Unit {0}) × List ℕ)) →
         option_map literals_of (at_end (mapped inr (with_first (literal_value l) o)))
@@ -148,7 +149,7 @@ one_more old new l bytes rest whole grown h so_far =
     by (Some v) =
         ap (λ xs. Some (xs ++ further_literals v)) (map-append literal_tree old (l ∷ []))
         ∙ ap Some (append_assoc (literal_trees old) (literal_tree l ∷ []) (further_literals v))
-        ∙ ap (λ t. Some (literal_trees old ++ t ∷ further_literals v)) (sym (same_literal l))
+        ∙ ap (λ t. Some (literal_trees old ++ t ∷ further_literals v)) (sym (value_is (literal_tree l)))
 
 pub none_more : (ls : List LiteralTree) (bytes : List ℕ) (whole : Option (List LiteralTree)) → eqb (length bytes) 0 ≡ false →
     read Literals literal_leaves next_literal bytes ≡ None →

@@ -1,83 +1,45 @@
 -- What a reader does with a line is what the line says.
-use Rattle.std.proofs.Common.{◌≡◌, ◌∙◌, ℕ, suc, ◌+◌, ◌<◌, ◌≤◌, Bool, true, false, ◌&&◌, ltb, leb, List, [], ◌∷◌, ◌++◌, length, Option, Some, None}
-use Rattle.std.proofs.Common.{slice_get, refl, sym, ap, arith, add-one}
+use Rattle.std.proofs.Common.{◌≡◌, ◌∙◌, ℕ, suc, ◌<◌, ◌≤◌, Bool, true, false, ◌&&◌, ltb, leb, List, [], ◌∷◌, ◌++◌, length, Option, Some, None}
+use Rattle.std.proofs.Common.{All, slice_get, sym, ap, arith}
 use Rattle.std.specs.Prelude.{option_map, option_and_then, if◌then◌else◌}
-use Rattle.std.proofs.lemmas.Bool.{and_parts, and_from, lt-ltb, leb-true, ltb-true, eq-eqb, false_from_ne_true}
+use Rattle.std.proofs.lemmas.Bool.{and_parts, leb-true, ltb-true, eq-eqb, false_from_ne_true}
 use Rattle.std.proofs.lemmas.List.{length-map}
-use Rattle.std.specs.List.{list_all}
+use Rattle.std.specs.List.{AllByRecursion}
+use Rattle.std.proofs.lemmas.List.Elements.{All-from_recursion}
+use Rattle.automaton_text.specs.declared.literals.Literal.{Literal}
+use Rattle.automaton_text.specs.HoaView.{literal_tree, literal_trees}
+use Rattle.automaton_text.proofs.LabelBits.{rise_parts}
 use Rattle.sequence.proofs.Options.{some_mapped}
 use Rattle.line_formats.specs.Format.{Value}
-use Rattle.cobuchi_automata.specs.Automata.{EdgeTree}
 use Rattle.cobuchi_automata.specs.Edges.{edge_trees}
 use Rattle.automaton_text.specs.HoaLines.{PartValue, bits_line, edge_line, line_value, quoted_names}
-use Rattle.automaton_text.specs.HoaLines.{is_marked, LiteralTree, literals_in, rise, lists, header, State, when}
-use Rattle.automaton_text.specs.HoaLines.{bits_step, edge_with, may_join, edge_step, step_at}
-use Rattle.automaton_text.specs.HoaView.{are_few, kept_edges, kept, kept_step, edges_read, reader_state}
+use Rattle.automaton_text.specs.HoaLines.{LiteralTree, literals_in, rise, header, State, when}
+use Rattle.automaton_text.specs.HoaLines.{bits_step, edge_with, may_join, edge_step}
+use Rattle.automaton_text.specs.HoaView.{are_few, kept_edges, kept, edges_read, reader_state}
 use Rattle.automaton_text.specs.declared.reader.HoaReader.{HoaReader}
 use Rattle.automaton_text.specs.internal.Marks.{mark_value}
-use Rattle.automaton_text.proofs.HoaSteps.{head_within, past_header}
+use Rattle.automaton_text.proofs.HoaLabels.{mark_is}
+use Rattle.automaton_text.proofs.HoaSteps.{past_header}
 use Rattle.automaton_text.proofs.HoaKept.{pushed}
 
 -- ---- the header
 
-abbrev no_edges : List EdgeTree
-no_edges = []
-
-none_kept : (b : Bool) → (if b then no_edges else []) ≡ []
-none_kept true = refl
-none_kept false = refl
-
-none_read : (r : HoaReader) → r.passed < 7 → edges_read r ≡ []
-none_read r within = ap (λ b. if b then [] else edge_trees r.edges.items) (lt-ltb r.passed 7 within)
-
-none_left : (r : HoaReader) → r.edges.items ≡ [] → edges_read r ≡ []
-none_left r none = ap (λ es. if ltb r.passed 7 then [] else edge_trees es) none ∙ none_kept (ltb r.passed 7)
-
--- what a reader that passed a line of the header stands for
-pub record Passes (old new : HoaReader) : Type 0 where
-  pub passed : new.passed ≡ old.passed + 1
-  pub edges : new.edges.items ≡ []
-  pub begun : new.begun ≡ old.begun
-  pub ended : new.ended ≡ old.ended
-
-passed_state : (old new : HoaReader) (states bits : ℕ) → old.passed < 7 → Passes old new → new.states ≡ states → new.bits ≡ bits →
-    kept (record (reader_state old) { passed = suc old.passed; states = states; bits = bits }) ≡ reader_state new
-passed_state old new states bits within p same_states same_bits =
-    let edges : kept_edges bits states (kept_edges old.bits old.states (edges_read old)) ≡ kept_edges new.bits new.states (edges_read new) =
-    ap (λ es. kept_edges bits states (kept_edges old.bits old.states es)) (none_read old within)
-    ∙ ap (kept_edges bits states) (none_kept (are_few old.bits old.states))
-    ∙ none_kept (are_few bits states)
-    ∙ sym (ap (kept_edges new.bits new.states) (none_left new p.edges) ∙ none_kept (are_few new.bits new.states)) in
-    λ i. record {
-      passed = (sym (add-one old.passed) ∙ sym p.passed) i;
-      states = sym same_states i;
-      names = [];
-      bits = sym same_bits i;
-      begun = sym p.begun i;
-      edges = edges i;
-      ended = sym p.ended i;
-    }
-
-pub bits_read : (old new : HoaReader) (line : List ℕ) (n m : ℕ) → old.ended ≡ false → slice_get header old.passed ≡ Some lists →
+-- the line of the bits, by its numbers alone
+pub bits_said : (s : State) (line : List ℕ) (n m : ℕ) →
     option_map {U = ℕ × ℕ} (λ (v : Value PartValue bits_line). (v.0, length v.1.0)) (line_value bits_line line) ≡ Some (n, m) → n ≡ m →
-    Passes old new → new.states ≡ old.states → new.bits ≡ n → kept_step (reader_state old) line ≡ Some (reader_state new)
-bits_read old new line n m open' here said same p same_states same_bits =
+    option_map kept (option_and_then (bits_step s) (line_value bits_line line)) ≡ Some (kept (record s { passed = suc s.passed; bits = n }))
+bits_said s line n m said same =
     let found = some_mapped (λ (v : Value PartValue bits_line). (v.0, length v.1.0)) (line_value bits_line line) (n, m) said in
     let v = found.0 in
     let names = quoted_names v.1 in
     let first : v.0 ≡ n = ap (λ (k : ℕ × ℕ). k.0) found.2 in
-    let long : length names ≡ m = length-map v.1.0 _ ∙ ap (λ (k : ℕ × ℕ). k.1) found.2 in
-    (λ i. option_map kept (step_at (open' i) (here i) (reader_state old) line))
-    ∙ ap (λ o. option_map kept (option_and_then (bits_step (reader_state old)) o)) found.1
-    ∙ ap (λ b. option_map kept (when b (record (reader_state old) { passed = suc old.passed; names = names; bits = length names })))
-    (eq-eqb v.0 (length names) (first ∙ same ∙ sym long))
-    ∙ ap Some (passed_state old new old.states (length names) (head_within old.passed lists here) p same_states (same_bits ∙ same ∙ sym long))
+    let long : length names ≡ n = length-map v.1.0 _ ∙ ap (λ (k : ℕ × ℕ). k.1) found.2 ∙ sym same in
+    ap (λ o. option_map kept (option_and_then (bits_step s) o)) found.1
+    ∙ ap (λ b. option_map kept (when b (record s { passed = suc s.passed; names = names; bits = length names })))
+    (eq-eqb v.0 (length names) (first ∙ sym long))
+    ∙ (λ i. Some (kept (record s { passed = suc s.passed; bits = long i })))
 
 -- ---- edges
-
-mark_is : (r : Bool) → is_marked (mark_value r) ≡ r
-mark_is true = refl
-mark_is false = refl
 
 abbrev edge_from : State → Option (List LiteralTree) → ℕ → Bool → Option State
 edge_from s o to r =
@@ -129,20 +91,19 @@ edge_read old new line label to r ls test past said read told right grown same =
     }))
 
 -- the bits of an edge that is kept are low
-pub low_bits : (s : State) (ls : List LiteralTree) (to : ℕ) → may_join s ls to ≡ true → are_few s.bits s.states ≡ true →
-    list_all (λ l. ltb l.bit 64) ls ≡ true
+pub low_bits : (s : State) (ls : List Literal) (to : ℕ) → may_join s (literal_trees ls) to ≡ true → are_few s.bits s.states ≡ true →
+    All (λ l. l.bit < 64) ls
 low_bits s ls to join few =
-    let up = (and_parts (ltb to s.states) (rise s.bits 0 ls)
-    (and_parts (ltb 0 s.begun && leb s.begun s.states) (ltb to s.states && rise s.bits 0 ls) join).1).1 in
-    by 0 ls up
+    let up = (and_parts (ltb to s.states) (rise s.bits 0 (literal_trees ls))
+    (and_parts (ltb 0 s.begun && leb s.begun s.states) (ltb to s.states && rise s.bits 0 (literal_trees ls)) join).1).1 in
+    All-from_recursion (λ (l : Literal). l.bit < 64) ls (by 0 ls up)
   where
     few_bits : s.bits ≤ 64
     few_bits = leb-true s.bits 64 (and_parts (leb s.bits 64) (leb s.states 4096) few).0
 
-    by : (least : ℕ) (ls : List LiteralTree) → rise s.bits least ls ≡ true → list_all (λ l. ltb l.bit 64) ls ≡ true
-    by least [] up = refl
+    by : (least : ℕ) (ls : List Literal) → rise s.bits least (literal_trees ls) ≡ true → AllByRecursion (λ (l : Literal). l.bit < 64) ls
+    by least [] up = tt
     by least (l ∷ ls) up =
-        let parts = and_parts (leb least l.bit && ltb l.bit s.bits) (rise s.bits (suc l.bit) ls) up in
-        let below = ltb-true l.bit s.bits (and_parts (leb least l.bit) (ltb l.bit s.bits) parts.0).1 in
+        let parts = rise_parts s.bits least (literal_tree l) (literal_trees ls) up in
         let few = few_bits in
-        and_from (ltb l.bit 64) (list_all (λ l. ltb l.bit 64) ls) (lt-ltb l.bit 64 (omega (arith, below, few))) (by (suc l.bit) ls parts.1)
+        (omega (arith, parts.1, few), by (suc l.bit) ls parts.2)

@@ -1,10 +1,11 @@
 -- The parts of a text, one after another, are the text.
 use Rattle.std.proofs.Common.{◌≡◌, ◌∙◌, ℕ, zero, suc, ◌+◌, ◌-◌, ◌<◌, Bool, true, false, cond, List, [], ◌∷◌, ◌++◌, length, map, refl, sym, ap, arith}
-use Rattle.std.proofs.Common.{append_assoc, add-one, codes}
+use Rattle.std.proofs.Common.{append_assoc, append-nil, add-one, codes}
 use Rattle.std.specs.Prelude.{filter, flat_map, decimal, if◌then◌else◌}
 use Rattle.std.proofs.lemmas.Grind.{flat_map-append}
 use Rattle.std.proofs.lemmas.List.{length-map, length-append}
 use Rattle.sequence.specs.Numbers.{numbers_from}
+use Rattle.sequence.proofs.Lists.{written_step}
 use Rattle.tsl_text.specs.Written.{text_of_lines}
 use Rattle.tsl_terms.specs.Name.{Name}
 use Rattle.term_text.specs.TermText.{probe_text}
@@ -13,36 +14,20 @@ use Rattle.letter_space.specs.SpaceTree.{ControlledTree, SpaceTree, choice_count
 use Rattle.cobuchi_automata.specs.Automata.{EdgeTree}
 use Rattle.annotation_check.specs.Annotations.{edges_from}
 use Rattle.automaton_text.specs.BitNames.{bit_names, choice_names}
-use Rattle.automaton_text.specs.HoaText.{literal_text, joined, bits_text, quoted_text, states_text, header_lines, state_lines, hoa_text}
+use Rattle.automaton_text.specs.HoaText.{literal_text, joined, bits_text, quoted_text, header_lines, state_lines, hoa_text}
 use Rattle.automaton_text.specs.internal.Written.{listed_lines}
 
 -- ---- the bits that a cube asks for
 
-numbers_left : (bit bits : ℕ) → bit < bits → numbers_from bit (bits - bit) ≡ bit ∷ numbers_from (suc bit) (bits - suc bit)
-numbers_left bit bits within = let e : bits - bit ≡ suc (bits - suc bit) = omega (arith, within) in ap (numbers_from bit) e
-
-abbrev asked_from : ℕ → ℕ → ℕ → List ℕ
+abbrev pub asked_from : ℕ → ℕ → ℕ → List ℕ
 asked_from care bits bit = filter (λ b. has_bit b care) (numbers_from bit (bits - bit))
 
-asked_next : (care bits bit : ℕ) (b : Bool) → bit < bits → b ≡ has_bit bit care →
+pub asked_next : (care bits bit : ℕ) (b : Bool) → bit < bits → has_bit bit care ≡ b →
     asked_from care bits bit ≡ cond b (bit ∷ asked_from care bits (suc bit)) (asked_from care bits (suc bit))
-asked_next care bits bit b within told =
-    ap (filter (λ b. has_bit b care)) (numbers_left bit bits within)
-    ∙ ap (λ b. cond b (bit ∷ asked_from care bits (suc bit)) (asked_from care bits (suc bit))) (sym told)
-
-pub asked_first : (care bits bit : ℕ) (b : Bool) (all : List ℕ) → bit < bits → b ≡ has_bit bit care → b ≡ true →
-    asked_from care bits bit ≡ all → all ≡ bit ∷ asked_from care bits (suc bit)
-asked_first care bits bit b all within told is so_far =
-    sym so_far ∙ asked_next care bits bit b within told
+asked_next care bits bit b within is =
+    let left : bits - bit ≡ suc (bits - suc bit) = omega (arith, within) in
+    ap (λ n. filter (λ b. has_bit b care) (numbers_from bit n)) left
     ∙ ap (λ b. cond b (bit ∷ asked_from care bits (suc bit)) (asked_from care bits (suc bit))) is
-
-pub asked_later : (care bits bit : ℕ) (b : Bool) (all : List ℕ) → bit < bits → b ≡ has_bit bit care → b ≡ false →
-    asked_from care bits bit ≡ all → asked_from care bits (bit + 1) ≡ all
-asked_later care bits bit b all within told is so_far =
-    ap (asked_from care bits) (add-one bit)
-    ∙ sym (ap (λ b. cond b (bit ∷ asked_from care bits (suc bit)) (asked_from care bits (suc bit))) is)
-    ∙ sym (asked_next care bits bit b within told)
-    ∙ so_far
 
 abbrev further : ℕ → List ℕ → List ℕ
 further want bits = flat_map (λ m. codes "&" ++ m) (map (literal_text want) bits)
@@ -52,20 +37,15 @@ pub further_next : (care want bits bit : ℕ) (old new all : List ℕ) → bit <
     old ++ further want (asked_from care bits bit) ≡ all → new ++ further want (asked_from care bits (bit + 1)) ≡ all
 further_next care want bits bit old new all within grown so_far =
     ap (λ k. new ++ further want (asked_from care bits k)) (add-one bit)
-    ∙ by (has_bit bit care) refl
-    ∙ so_far
+    ∙ written_step old new (if has_bit bit care then codes "&" ++ literal_text want bit else []) (further want (asked_from care bits bit))
+    (further want (asked_from care bits (suc bit))) all so_far
+    (by (has_bit bit care) (asked_next care bits bit (has_bit bit care) within refl)) grown
   where
-    by : (b : Bool) → has_bit bit care ≡ b → new ++ further want (asked_from care bits (suc bit)) ≡ old ++ further want (asked_from care bits bit)
-    by true is =
-        ap (λ ys. ys ++ further want (asked_from care bits (suc bit)))
-        (grown ∙ ap (λ b. old ++ (if b then codes "&" ++ literal_text want bit else [])) is)
-        ∙ append_assoc old (codes "&" ++ literal_text want bit) (further want (asked_from care bits (suc bit)))
-        ∙ ap (λ xs. old ++ further want xs) (sym (asked_next care bits bit true within (sym is)))
-    by false is =
-        ap (λ ys. ys ++ further want (asked_from care bits (suc bit)))
-        (grown ∙ ap (λ b. old ++ (if b then codes "&" ++ literal_text want bit else [])) is)
-        ∙ append_assoc old [] (further want (asked_from care bits (suc bit)))
-        ∙ ap (λ xs. old ++ further want xs) (sym (asked_next care bits bit false within (sym is)))
+    by : (b : Bool) → asked_from care bits bit ≡ cond b (bit ∷ asked_from care bits (suc bit)) (asked_from care bits (suc bit)) →
+        further want (asked_from care bits bit)
+        ≡ (if b then codes "&" ++ literal_text want bit else []) ++ further want (asked_from care bits (suc bit))
+    by true is = ap (further want) is
+    by false is = ap (further want) is
 
 pub label_written : (care want bits first : ℕ) (all o o1 o2 : List ℕ) → all ≡ first ∷ asked_from care bits (suc first) →
     o1 ≡ o ++ literal_text want first → o2 ≡ o1 ++ further want (asked_from care bits (first + 1)) →
@@ -112,51 +92,13 @@ bits_written names space bits o o1 o2 o3 o4 o5 count first second third fourth f
     tail = flat_map quoted_text (map (probe_text names) space.predicates)
         ++ flat_map quoted_text (flat_map (choice_names names) space.controlled)
 
-    flat : (o a b c d e : List ℕ) → ((((o ++ a) ++ b) ++ c) ++ d) ++ e ≡ o ++ ((a ++ (b ++ (c ++ d))) ++ e)
-    flat o a b c d e = simp append_assoc refl
-
     five : (o o1 o2 o3 o4 o5 a b c d e : List ℕ) → o1 ≡ o ++ a → o2 ≡ o1 ++ b → o3 ≡ o2 ++ c → o4 ≡ o3 ++ d → o5 ≡ o4 ++ e →
         o5 ≡ o ++ ((a ++ (b ++ (c ++ d))) ++ e)
-    five o o1 o2 o3 o4 o5 a b c d e h1 h2 h3 h4 h5 =
-        h5 ∙ ap (λ xs. xs ++ e) (h4 ∙ ap (λ xs. xs ++ d) (h3 ∙ ap (λ xs. xs ++ c) (h2 ∙ ap (λ xs. xs ++ b) h1))) ∙ flat o a b c d e
+    five o o1 o2 o3 o4 o5 a b c d e h1 h2 h3 h4 h5 = rw (h5, h4, h3, h2, h1) (simp append_assoc)
 
--- a line more of a text
-lines_next : (o o1 o2 l : List ℕ) (ls : List (List ℕ)) → o1 ≡ o ++ (l ++ 10 ∷ []) → o2 ≡ o1 ++ text_of_lines ls →
-    o2 ≡ o ++ text_of_lines (l ∷ ls)
-lines_next o o1 o2 l ls first rest = two o o1 o2 (l ++ 10 ∷ []) (text_of_lines ls) first rest
-
-line_last : (o o1 l : List ℕ) → o1 ≡ o ++ (l ++ 10 ∷ []) → o1 ≡ o ++ text_of_lines (l ∷ [])
-line_last o o1 l is = is ∙ ap (λ xs. o ++ xs) (sym (append-end (l ++ 10 ∷ []))) where
-  append-end : (xs : List ℕ) → xs ++ [] ≡ xs
-  append-end [] = refl
-  append-end (x ∷ xs) = ap (λ ys. x ∷ ys) (append-end xs)
-
-pub header_written : (names : List (List ℕ)) (states : ℕ) (o o1 o2 o3 o4 o5 o6 o7 : List ℕ) → o1 ≡ o ++ (codes "HOA: v1" ++ 10 ∷ []) →
-    o2 ≡ o1 ++ (states_text states ++ 10 ∷ []) → o3 ≡ o2 ++ (codes "Start: 0" ++ 10 ∷ []) → o4 ≡ o3 ++ (bits_text names ++ 10 ∷ []) →
-    o5 ≡ o4 ++ (codes "acc-name: Buchi" ++ 10 ∷ []) → o6 ≡ o5 ++ (codes "Acceptance: 1 Inf(0)" ++ 10 ∷ []) →
-    o7 ≡ o6 ++ (codes "--BODY--" ++ 10 ∷ []) → o7 ≡ o ++ text_of_lines (header_lines names states)
-header_written names states o o1 o2 o3 o4 o5 o6 o7 h1 h2 h3 h4 h5 h6 h7 =
-    lines_next o o1 o7 (codes "HOA: v1") after_version h1
-    (lines_next o1 o2 o7 (states_text states) after_states h2
-    (lines_next o2 o3 o7 (codes "Start: 0") after_start h3
-    (lines_next o3 o4 o7 (bits_text names) after_bits h4
-    (lines_next o4 o5 o7 (codes "acc-name: Buchi") after_name h5
-    (lines_next o5 o6 o7 (codes "Acceptance: 1 Inf(0)") (codes "--BODY--" ∷ []) h6 (line_last o6 o7 (codes "--BODY--") h7))))))
-  where
-    after_name : List (List ℕ)
-    after_name = codes "Acceptance: 1 Inf(0)" ∷ codes "--BODY--" ∷ []
-
-    after_bits : List (List ℕ)
-    after_bits = codes "acc-name: Buchi" ∷ after_name
-
-    after_start : List (List ℕ)
-    after_start = bits_text names ∷ after_bits
-
-    after_states : List (List ℕ)
-    after_states = codes "Start: 0" ∷ after_start
-
-    after_version : List (List ℕ)
-    after_version = states_text states ∷ after_states
+pub seven : (o o1 o2 o3 o4 o5 o6 o7 a b c d e f g : List ℕ) → o1 ≡ o ++ a → o2 ≡ o1 ++ b → o3 ≡ o2 ++ c → o4 ≡ o3 ++ d → o5 ≡ o4 ++ e →
+    o6 ≡ o5 ++ f → o7 ≡ o6 ++ g → o7 ≡ o ++ (a ++ (b ++ (c ++ (d ++ (e ++ (f ++ (g ++ [])))))))
+seven o o1 o2 o3 o4 o5 o6 o7 a b c d e f g h1 h2 h3 h4 h5 h6 h7 = rw (h7, h6, h5, h4, h3, h2, h1) (simp (append_assoc, append-nil))
 
 -- ---- states
 

@@ -1,12 +1,14 @@
 -- The text of an automaton is read as this automaton, its edges in the order of their first states.
 use Rattle.std.proofs.Common.{◌≡◌, ◌∙◌, ℕ, zero, suc, ◌+◌, ◌-◌, ◌<◌, Bool, true, false, cond, ◌&&◌, ◌||◌, eqb, ltb, leb}
-use Rattle.std.proofs.Common.{List, [], ◌∷◌, ◌++◌, length, map, Some, refl, sym, ap, arith, append_assoc, append-nil}
+use Rattle.std.proofs.Common.{List, [], ◌∷◌, ◌++◌, length, map, Some, refl, sym, ap, subst, arith, append_assoc, append-nil}
 use Rattle.std.proofs.Common.{codes, inl, Result, Ok, slice_get}
-use Rattle.std.specs.Prelude.{option_and_then, flat_map, filter, decimal, if◌then◌else◌}
+use Rattle.std.specs.Prelude.{option_and_then, flat_map, decimal, if◌then◌else◌}
 use Rattle.std.specs.List.{list_all, AllByRecursion}
 use Rattle.std.specs.Char.{is_ascii_digit}
-use Rattle.std.proofs.lemmas.Bool.{and_parts, and_from, leb-true, ltb-true, le-leb, lt-ltb, eqb-true}
+use Rattle.std.proofs.lemmas.Bool.{and_parts, and_from, or_left, or_right, leb-true, le-leb, lt-ltb, eqb-true}
 use Rattle.sequence.specs.Numbers.{numbers_from}
+use Rattle.sequence.proofs.Each.{each_filtered, each_map}
+use Rattle.sequence.proofs.Numbers.{numbers_below}
 use Rattle.sequence.proofs.Passes.{list_all_weaker, list_all_joined}
 use Rattle.tsl_text.specs.Written.{is_line}
 use Rattle.tsl_text.specs.Lines.{lines_from}
@@ -20,13 +22,13 @@ use Rattle.cobuchi_automata.specs.Automata.{EdgeTree}
 use Rattle.annotation_check.specs.Annotations.{edges_from}
 use Rattle.automaton_text.specs.HoaText.{number_bound, joined, label_text, literal_text, bits_asked, mark_text, edge_text, state_text}
 use Rattle.automaton_text.specs.HoaText.{states_text, bits_text, state_lines, header_lines, hoa_lines, hoa_text, IsEdgeOf, IsHoa, IsHoaText, grouped}
-use Rattle.automaton_text.specs.HoaLines.{PartValue, leaves, within_brackets, edge_line, mark, body_line, line_value, line_text, is_marked, literals_in}
+use Rattle.automaton_text.specs.HoaLines.{LiteralTree, PartValue, leaves, within_brackets, edge_line, mark, body_line, line_value, line_text, is_marked, literals_in}
 use Rattle.automaton_text.specs.HoaLines.{rise, Head, counts, lists, header, State, fresh, when, edge_with, may_join}
 use Rattle.automaton_text.specs.HoaLines.{body_step, step, whole}
 use Rattle.automaton_text.specs.internal.Marks.{mark_value}
 use Rattle.automaton_text.proofs.BitLines.{law}
-use Rattle.automaton_text.proofs.LabelBits.{texts_from, literals_from, cube_literals, cube_rises, care_back, want_back}
-use Rattle.automaton_text.proofs.HoaLabels.{label_read, is_short, edge_print}
+use Rattle.automaton_text.proofs.LabelBits.{texts_from, cube_literals, cube_rises, care_back, want_back}
+use Rattle.automaton_text.proofs.HoaLabels.{label_read, edge_print, mark_is}
 use Rattle.automaton_text.proofs.HoaSteps.{head_text, told}
 use Rattle.automaton_text.proofs.HoaLive.{when_true, head_after, head_goes, head_is_line, state_goes, end_goes, state_is_line}
 
@@ -37,13 +39,9 @@ digit_inside b digit =
     let parts = and_parts (leb 48 b) (leb b 57) digit in
     let from = leb-true 48 b parts.0 in
     let to = leb-true b 57 parts.1 in
-    later (leb 0 b && leb b 9) (leb 11 b && leb b 92) ((leb 94 b && leb b 255) || false)
-    (and_from (leb 11 b) (leb b 92) (le-leb 11 b (omega (arith, from))) (le-leb b 92 (omega (arith, to))))
-  where
-    later : (p q r : Bool) → q ≡ true → (p || (q || r)) ≡ true
-    later true q r h = refl
-    later false true r h = refl
-    later false false r h = absurd cc
+    or_right (leb 0 b && leb b 9) ((leb 11 b && leb b 92) || ((leb 94 b && leb b 255) || false))
+    (or_left (leb 11 b && leb b 92) ((leb 94 b && leb b 255) || false)
+    (and_from (leb 11 b) (leb b 92) (le-leb 11 b (omega (arith, from))) (le-leb b 92 (omega (arith, to)))))
 
 abbrev is_inside : List ℕ → Bool
 is_inside bytes = list_all (has within_brackets) bytes
@@ -57,41 +55,32 @@ literal_inside want b short =
     sign true = refl
     sign false = refl
 
-abbrev are_short : List ℕ → Bool
-are_short bs = list_all (λ b. ltb b number_bound) bs
+abbrev AreShort : List ℕ → Type 0
+AreShort bs = AllByRecursion (λ b. b < number_bound) bs
 
-further_inside : (want : ℕ) (bs : List ℕ) → are_short bs ≡ true →
-    is_inside (flat_map (λ m. codes "&" ++ m) (map (literal_text want) bs)) ≡ true
+further_inside : (want : ℕ) (bs : List ℕ) → AreShort bs → is_inside (flat_map (λ m. codes "&" ++ m) (map (literal_text want) bs)) ≡ true
 further_inside want [] short = refl
 further_inside want (b ∷ bs) short =
-    let parts = and_parts (ltb b number_bound) (are_short bs) short in
     list_all_joined (has within_brackets) (codes "&" ++ literal_text want b) (flat_map (λ m. codes "&" ++ m) (map (literal_text want) bs))
-    (literal_inside want b (ltb-true b number_bound parts.0)) (further_inside want bs parts.1)
+    (literal_inside want b short.0) (further_inside want bs short.1)
 
-joined_inside : (want : ℕ) (bs : List ℕ) → are_short bs ≡ true → is_inside (joined (map (literal_text want) bs)) ≡ true
+joined_inside : (want : ℕ) (bs : List ℕ) → AreShort bs → is_inside (joined (map (literal_text want) bs)) ≡ true
 joined_inside want [] short = refl
 joined_inside want (b ∷ bs) short =
-    let parts = and_parts (ltb b number_bound) (are_short bs) short in
     list_all_joined (has within_brackets) (literal_text want b) (flat_map (λ m. codes "&" ++ m) (map (literal_text want) bs))
-    (literal_inside want b (ltb-true b number_bound parts.0)) (further_inside want bs parts.1)
+    (literal_inside want b short.0) (further_inside want bs short.1)
 
-numbers_short : (p : ℕ → Bool) (first count : ℕ) → first + count < number_bound → are_short (filter p (numbers_from first count)) ≡ true
-numbers_short p first zero few = refl
-numbers_short p first (suc count) few = by (p first) (numbers_short p (suc first) count (omega (arith, few))) where
-  by : (t : Bool) → are_short (filter p (numbers_from (suc first) count)) ≡ true →
-      are_short (cond t (first ∷ filter p (numbers_from (suc first) count)) (filter p (numbers_from (suc first) count))) ≡ true
-  by true rest = and_from (ltb first number_bound) (are_short (filter p (numbers_from (suc first) count)))
-      (lt-ltb first number_bound (omega (arith, few))) rest
-  by false rest = rest
+-- these lines lead from one state to another
+abbrev Leads : State → List (List ℕ) → State → Type 0
+Leads s ls t = (steps step s ls ≡ Some t) × (list_all is_line ls ≡ true)
 
-literals_short : (want : ℕ) (bs : List ℕ) → are_short bs ≡ true → list_all is_short (literals_from want bs) ≡ true
-literals_short want [] short = refl
-literals_short want (b ∷ bs) short =
-    let parts = and_parts (ltb b number_bound) (are_short bs) short in
-    and_from (ltb b number_bound) (list_all is_short (literals_from want bs)) parts.0 (literals_short want bs parts.1)
+first_line : (s t u : State) (l : List ℕ) (ls : List (List ℕ)) → step s l ≡ Some t → is_line l ≡ true → Leads t ls u → Leads s (l ∷ ls) u
+first_line s t u l ls goes line rest =
+    (ap (option_and_then (λ t. steps step t ls)) goes ∙ rest.0, and_from (is_line l) (list_all is_line ls) line rest.1)
 
-go : (s t u : State) (l : List ℕ) (ls : List (List ℕ)) → step s l ≡ Some t → steps step t ls ≡ Some u → steps step s (l ∷ ls) ≡ Some u
-go s t u l ls first rest = ap (option_and_then (λ t. steps step t ls)) first ∙ rest
+all_lines : (s t u : State) (ls ms : List (List ℕ)) → Leads s ls t → Leads t ms u → Leads s (ls ++ ms) u
+all_lines s t u ls ms before behind =
+    (steps_append step whole s t ls ms before.0 ∙ behind.0, list_all_joined is_line ls ms before.1 behind.1)
 
 -- after the whole text
 abbrev read_as : List (List ℕ) → ℕ → List EdgeTree → State
@@ -105,25 +94,24 @@ module _ (names : List (List ℕ)) (states : ℕ) (all_edges : List EdgeTree) (h
 
   -- ---- an edge
 
-  bits_short : (d : EdgeTree) → are_short (bits_asked (length names) d.care) ≡ true
-  bits_short d = numbers_short (λ b. has_bit b d.care) 0 (length names) (let few = hoa.few_bits in omega (arith, few))
+  bits_short : (d : EdgeTree) → AreShort (bits_asked (length names) d.care)
+  bits_short d =
+      each_filtered (λ b. b < number_bound) (λ b. has_bit b d.care) (numbers_from 0 (length names))
+      (numbers_below 0 (length names) number_bound (let few = hoa.few_bits in omega (arith, few)))
 
   label_back : (d : EdgeTree) → literals_in (label_text (length names) d) ≡ Some (cube_literals (length names) d.care d.want)
   label_back d =
       ap (λ ts. literals_in (joined ts)) (sym (texts_from d.want (bits_asked (length names) d.care)))
       ∙ label_read (cube_literals (length names) d.care d.want)
-      (literals_short d.want (bits_asked (length names) d.care) (bits_short d))
-
-  mark_same : (r : Bool) → is_marked (mark_value r) ≡ r
-  mark_same true = refl
-  mark_same false = refl
+      (each_map (λ (l : LiteralTree). l.bit < number_bound) (λ b. record { bit = b; wanted = has_bit b d.want })
+      (bits_asked (length names) d.care) (bits_short d))
 
   edge_line_is : (d : EdgeTree) →
       line_text edge_line (label_text (length names) d, (d.to, mark_value d.rejecting))
       ≡ edge_text (length names) d
   edge_line_is d =
       edge_print (label_text (length names) d) d.to (mark_value d.rejecting)
-      ∙ ap (λ r. codes "[" ++ label_text (length names) d ++ codes "] " ++ decimal d.to ++ mark_text r) (mark_same d.rejecting)
+      ∙ ap (λ r. codes "[" ++ label_text (length names) d ++ codes "] " ++ decimal d.to ++ mark_text r) (mark_is d.rejecting)
 
   edge_fits : (d : EdgeTree) → d.to < states →
       fits PartValue leaves edge_line (label_text (length names) d, (d.to, mark_value d.rejecting)) ≡ true
@@ -146,7 +134,7 @@ module _ (names : List (List ℕ)) (states : ℕ) (all_edges : List EdgeTree) (h
     care = care_back (length names) d.care d.want is.asks i;
     want = want_back (length names) d.care d.want is.asks is.within i;
     to = d.to;
-    rejecting = mark_same d.rejecting i;
+    rejecting = mark_is d.rejecting i;
   }
 
   edge_goes : (d : EdgeTree) (q : ℕ) (es : List EdgeTree) → d.from ≡ q → IsEdgeOf (length names) states d →
@@ -177,20 +165,14 @@ module _ (names : List (List ℕ)) (states : ℕ) (all_edges : List EdgeTree) (h
 
   -- ---- the edges of a state, and all states
 
-  edges_go : (ds : List EdgeTree) (q : ℕ) (es : List EdgeTree) →
-      AllByRecursion (λ d. (d.from ≡ q) × IsEdgeOf (length names) states d) ds →
-      (steps step (at (suc q) es) (map (edge_text (length names)) ds) ≡ Some (at (suc q) (es ++ ds)))
-      × (list_all is_line (map (edge_text (length names)) ds) ≡ true)
+  edges_go : (ds : List EdgeTree) (q : ℕ) (es : List EdgeTree) → AllByRecursion (λ d. (d.from ≡ q) × IsEdgeOf (length names) states d) ds →
+      Leads (at (suc q) es) (map (edge_text (length names)) ds) (at (suc q) (es ++ ds))
   edges_go [] q es all = (ap (λ xs. Some (at (suc q) xs)) (sym (append-nil es)), refl)
   edges_go (d ∷ ds) q es all =
-      let rest = edges_go ds q (es ++ d ∷ []) all.1 in (
-        go (at (suc q) es) (at (suc q) (es ++ d ∷ [])) (at (suc q) (es ++ d ∷ ds)) (edge_text (length names) d)
-            (map (edge_text (length names)) ds)
-            (edge_goes d q es all.0.0 all.0.1)
-            (rest.0 ∙ ap (λ xs. Some (at (suc q) xs)) (append_assoc es (d ∷ []) ds)),
-        and_from (is_line (edge_text (length names) d)) (list_all is_line (map (edge_text (length names)) ds))
-            (edge_is_line d all.0.1.to) rest.1,
-      )
+      first_line (at (suc q) es) (at (suc q) (es ++ d ∷ [])) (at (suc q) (es ++ d ∷ ds)) (edge_text (length names) d)
+      (map (edge_text (length names)) ds) (edge_goes d q es all.0.0 all.0.1) (edge_is_line d all.0.1.to)
+      (subst (λ xs. Leads (at (suc q) (es ++ d ∷ [])) (map (edge_text (length names)) ds) (at (suc q) xs)) (append_assoc es (d ∷ []) ds)
+      (edges_go ds q (es ++ d ∷ []) all.1))
 
   from_state : (edges : List EdgeTree) (q : ℕ) → AllByRecursion (IsEdgeOf (length names) states) edges →
       AllByRecursion (λ d. (d.from ≡ q) × IsEdgeOf (length names) states d) (edges_from edges q)
@@ -203,27 +185,22 @@ module _ (names : List (List ℕ)) (states : ℕ) (all_edges : List EdgeTree) (h
 
   states_go : (edges : List EdgeTree) → AllByRecursion (IsEdgeOf (length names) states) edges → (q count : ℕ) (es : List EdgeTree) →
       q + count ≡ states →
-      (steps step (at q es) (flat_map (state_lines (length names) edges) (numbers_from q count))
-      ≡ Some (at states (es ++ flat_map (edges_from edges) (numbers_from q count))))
-      × (list_all is_line (flat_map (state_lines (length names) edges) (numbers_from q count)) ≡ true)
+      Leads (at q es) (flat_map (state_lines (length names) edges) (numbers_from q count))
+      (at states (es ++ flat_map (edges_from edges) (numbers_from q count)))
   states_go edges all q zero es sum =
       let all_begun : q ≡ states = omega (arith, sum) in ((λ i. Some (at (all_begun i) (sym (append-nil es) i))), refl)
   states_go edges all q (suc count) es sum =
       let below : q < states = omega (arith, sum) in
-      let here = edges_go (edges_from edges q) q es (from_state edges q all) in
-      let rest = states_go edges all (suc q) count (es ++ edges_from edges q) (omega (arith, sum)) in
-      let more = flat_map (state_lines (length names) edges) (numbers_from (suc q) count) in (
-        go (at q es) (at (suc q) es) (at states (es ++ (edges_from edges q ++ flat_map (edges_from edges) (numbers_from (suc q) count))))
-            (state_text q) (map (edge_text (length names)) (edges_from edges q) ++ more)
-            (state_goes (at q es) refl refl below hoa.few_states)
-            (steps_append step whole (at (suc q) es) (at (suc q) (es ++ edges_from edges q))
-            (map (edge_text (length names)) (edges_from edges q)) more here.0
-            ∙ rest.0
-            ∙ ap (λ xs. Some (at states xs)) (append_assoc es (edges_from edges q) (flat_map (edges_from edges) (numbers_from (suc q) count)))),
-        and_from (is_line (state_text q)) (list_all is_line (map (edge_text (length names)) (edges_from edges q) ++ more))
-            (state_is_line q (let few = hoa.few_states in omega (arith, below, few)))
-            (list_all_joined is_line (map (edge_text (length names)) (edges_from edges q)) more here.1 rest.1),
-      )
+      let own = map (edge_text (length names)) (edges_from edges q) in
+      let more = flat_map (state_lines (length names) edges) (numbers_from (suc q) count) in
+      let later = flat_map (edges_from edges) (numbers_from (suc q) count) in
+      let end = at states (es ++ (edges_from edges q ++ later)) in
+      first_line (at q es) (at (suc q) es) end (state_text q) (own ++ more) (state_goes (at q es) refl refl below hoa.few_states)
+      (state_is_line q (let few = hoa.few_states in omega (arith, below, few)))
+      (all_lines (at (suc q) es) (at (suc q) (es ++ edges_from edges q)) end own more
+      (edges_go (edges_from edges q) q es (from_state edges q all))
+      (subst (λ xs. Leads (at (suc q) (es ++ edges_from edges q)) more (at states xs)) (append_assoc es (edges_from edges q) later)
+      (states_go edges all (suc q) count (es ++ edges_from edges q) (omega (arith, sum)))))
 
   -- ---- the header
 
@@ -260,15 +237,14 @@ module _ (names : List (List ℕ)) (states : ℕ) (all_edges : List EdgeTree) (h
 
   pub is_text : IsText step whole fresh (hoa_lines names states all_edges) (read_as names states all_edges)
   is_text =
-      let body = states_go all_edges hoa.are_edges 0 states [] (omega arith) in
-      let lines = flat_map (state_lines (length names) all_edges) (numbers_from 0 states) in record {
-        lines = list_all_joined is_line (header_lines names states ++ lines) (codes "--END--" ∷ [])
-            (list_all_joined is_line (header_lines names states) lines header_lines_are body.1) refl;
-        says = steps_append step whole fresh (at states (grouped states all_edges)) (header_lines names states ++ lines) (codes "--END--" ∷ [])
-            (steps_append step whole fresh (at 0 []) (header_lines names states) lines header_goes ∙ body.0)
-            ∙ ap (option_and_then (λ t. Some t)) (end_goes (at states (grouped states all_edges)) refl refl refl);
-        done = refl;
-      }
+      let lines = flat_map (state_lines (length names) all_edges) (numbers_from 0 states) in
+      let all = at states (grouped states all_edges) in
+      let end = read_as names states all_edges in
+      let leads = all_lines fresh all end (header_lines names states ++ lines) (codes "--END--" ∷ [])
+      (all_lines fresh (at 0 []) all (header_lines names states) lines (header_goes, header_lines_are)
+      (states_go all_edges hoa.are_edges 0 states [] (omega arith)))
+      (first_line all end end (codes "--END--") [] (end_goes all refl refl refl) refl (refl, refl)) in
+      record { lines = leads.1; says = leads.0; done = refl }
 
 -- ---- laws
 

@@ -1,7 +1,6 @@
 //! The literals of a label as they are read.
 
-ghost use Rattle.std.specs.Prelude.{◌≡◌, ◌<◌, ◌∷◌, [], map, option_map, nat_lt, IsTrue, IfOk, IfSome, IfNone, Some, None};
-ghost use Rattle.std.specs.List.{list_all};
+ghost use Rattle.std.specs.Prelude.{◌≡◌, ◌<◌, ◌∷◌, [], map, option_map, All, IfOk, IfSome, IfNone, Some, None};
 ghost use Rattle.line_formats.specs.Format.{read, value_of_line};
 ghost use Rattle.automaton_text.specs.HoaLines.{Numbers, number_leaves, Literals, literal_leaves, literal_line, next_literal, more_literals, further_literals, literals_in, rise, care_with, want_with, with_wanted};
 ghost use Rattle.letter_space.specs.Letters.{with_bit};
@@ -106,7 +105,7 @@ pub(crate) fn rise(bits: u64, literals: &[Literal]) -> bool
 
 /// The cube that asks for the bits of literals.
 pub(crate) fn cube_of(literals: &[Literal]) -> Cube
-    requires { IsTrue (list_all (λ l. nat_lt l.bit 64) (literal_trees literals.now)) }
+    requires { All (λ l. l.bit < 64) literals.now }
     ensures care { result.care ≡ care_with 0 (literal_trees literals.now) }
     ensures want { result.want ≡ want_with 0 (literal_trees literals.now) }
 {

@@ -15,6 +15,5 @@ returns-then-begins-clause-wrong c is =
 
 pub returns-then-begins-2-clause-read : goal.returns-then-begins-2-clause-read
 returns-then-begins-2-clause-read c is =
-    step_state (reader_state c.args.self.now) c.args.line.now c.requires.open c.requires.past (sym c.begins.ensures ∙ c.if-begins.false)
-    (sym c.begins-2.ensures ∙ c.if-begins-2.true)
+    step_state (reader_state c.args.self.now) c.args.line.now c.requires.open c.requires.past (sym c.begins-2.ensures ∙ c.if-begins-2.true)
     ∙ c.read_state.ensures.read (ok_is c.read_state.result true is)
