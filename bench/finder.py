@@ -14,7 +14,7 @@ import rounds
 from measuring import PROGRAM, built, measured
 from windows import is_congruent, is_equality
 
-SIZES = ["--states", "1", "--bound", "0", "--env-states", "1", "--env-bound", "1"]
+SIZES = ["--states", "1", "--bound", "0", "--env-states", "2", "--env-bound", "2"]
 SIGNALS = ["x", "y", "a", "b"]
 UPDATED = ["a", "b"]
 ROUNDS = 4
@@ -26,11 +26,11 @@ def choices(signal, terms):
 
 
 def specification(cells, outputs):
-    """So many cells that keep themselves or copy the input, an output for each count, of so many terms, and an input that may
-    never pass."""
+    """So many cells that keep themselves or copy the input, an output for each count, of so many terms, and an input that passes at
+    every second step, so that an environment has states that differ."""
     lines = [choices(f"cell{i}", [f"cell{i}", "x"]) for i in range(cells)]
     lines += [choices(f"out{i}", [f"f{j} x" for j in range(count)]) for i, count in enumerate(outputs)]
-    return "always guarantee { %s } guarantee { F p x; }" % " ".join(lines)
+    return "always guarantee { %s } always assume { p x <-> X !p x; } guarantee { false; }" % " ".join(lines)
 
 
 FAMILIES = [
