@@ -1,6 +1,6 @@
 pub mod CnfLemmas
 mod Examples
 pub mod StageLemmas
-pub mod LeftLemmas
+pub mod RestLemmas
 pub mod PlaceLemmas
 pub mod WalkLemmas

@@ -22,11 +22,11 @@ use Rattle.cnf_reader.specs.CnfText.{CnfAnswer, is_cnf, form_at}
 use Rattle.cnf_reader.specs.Pieces.{IsGiven}
 use Rattle.cnf_reader.specs.internal.Told.{Tells}
 use Rattle.cnf_reader.specs.internal.Stages.{at_comment, at_data_line, after_long_word}
-use Rattle.cnf_reader.specs.internal.Left.{line_rest, later_lines, begins_with_blank, EndsWord}
+use Rattle.cnf_reader.specs.internal.RestOfText.{line_rest, later_lines, begins_with_blank, EndsWord}
 use Rattle.cnf_reader.specs.internal.Reading.{lines_answer, numbers_answer, words_answer, answer_at, answer_left, end_answer}
 use Rattle.cnf_reader.specs.internal.Places.{GoesOn, IsKept, in_word, at_feed, in_comment}
 use Rattle.cnf_reader.proofs.StageLemmas.{header_long, number_long}
-use Rattle.cnf_reader.proofs.LeftLemmas.{later_after_word, first_word, ends_where_stopped, first_line, line_more, later_in_line, later_of_cut}
+use Rattle.cnf_reader.proofs.RestLemmas.{later_after_word, first_word, ends_where_stopped, first_line, line_more, later_in_line, later_of_cut}
 
 -- ---- blanks
 

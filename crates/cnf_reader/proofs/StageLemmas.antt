@@ -21,7 +21,7 @@ use Rattle.cnf_reader.specs.CnfText.{CnfAnswer, is_cnf, form_at, too_many_variab
 use Rattle.cnf_reader.specs.CnfText.{first_wrong, numbers_of, clauses_of_numbers, answer_of_words, answer_of_numbers, answer_of_header, cnf_answer_of_lines, cnf_answer}
 use Rattle.cnf_reader.specs.internal.Told.{Tells, fresh, AreWithinLimits, ended_clauses}
 use Rattle.cnf_reader.specs.internal.Stages.{header_stage, header_tells}
-use Rattle.cnf_reader.specs.internal.Left.{words_from}
+use Rattle.cnf_reader.specs.internal.RestOfText.{words_from}
 use Rattle.cnf_reader.specs.internal.Reading.{numbers_answer, checked_answer, words_answer, behind_form, behind_kind, counts_behind, counted_answer}
 use Rattle.cnf_reader.specs.internal.Reading.{lines_answer, answer_at, answer_left}
 use Rattle.cnf_reader.proofs.CnfLemmas.{wrong_among, wrong_here, right_here, numbers_more, few_ended, clauses_are}

@@ -1,5 +1,5 @@
 pub mod Told
-pub mod Left
+pub mod RestOfText
 pub mod Stages
 pub mod Reading
 pub mod Places

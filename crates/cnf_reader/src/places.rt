@@ -2,7 +2,7 @@
 
 ghost use Rattle.std.specs.Prelude.{◌≡◌, ◌<◌, ◌≤◌, ◌∷◌, true, false, IfOk, IfErr, length};
 ghost use Rattle.tsl_text.specs.Numbers.{signed_number_in};
-ghost use Rattle.cnf_reader.specs.internal.Left.{begins_with_blank, HasFewLines};
+ghost use Rattle.cnf_reader.specs.internal.RestOfText.{begins_with_blank, HasFewLines};
 ghost use Rattle.cnf_reader.specs.internal.Places.{GoesOn, HasNext, IsInWord, IsKept};
 
 use crate::stages::Stage;

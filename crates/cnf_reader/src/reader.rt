@@ -3,7 +3,7 @@
 ghost use Rattle.std.specs.Prelude.{◌≡◌, ◌+◌, ◌<◌, ◌^◌, ℕ, true, [], ◌++◌, List, IfOk, OnOk, length};
 ghost use Rattle.cnf_reader.specs.CnfText.{cnf_answer};
 ghost use Rattle.cnf_reader.specs.Pieces.{HasRead, IsGiven};
-ghost use Rattle.cnf_reader.specs.internal.Left.{HasFewLines};
+ghost use Rattle.cnf_reader.specs.internal.RestOfText.{HasFewLines};
 ghost use Rattle.cnf_reader.specs.internal.Reading.{answer_left, numbers_answer, end_answer};
 ghost use Rattle.cnf_reader.specs.internal.Places.{tells, answer_from, IsKept};
 

@@ -6,7 +6,7 @@ use Rattle.command_words.specs.Arguments.{given_word, takes_words}
 use Rattle.std.proofs.lemmas.Bool.{and_from}
 use Rattle.std.specs.Prelude.{◌&&◌, is_some}
 use Rattle.command_words.specs.declared.synth_bound.SynthBound.{SynthBound}
-use Rattle.command_words.specs.Commands.{AreItsNumbers, AsksFor, IsGivenBound, IsGivenWithin, are_taken, has_bound, task_word, command, command_word}
+use Rattle.command_words.specs.Commands.{AreItsNumbers, ParsesTo, IsGivenBound, IsGivenWithin, are_taken, has_bound, task_word, command, command_word}
 use Rattle.command_words.specs.declared.command_word.CommandWord.{CommandWord}
 use Rattle.command_words.specs.declared.task.Task.{Task}
 use Rattle.command_words.specs.declared.task.Task.TheVariants as task
@@ -47,7 +47,7 @@ same_task given _ _ same h k = cc
 some_same : (v w : CommandWord) (o : Option CommandWord) → o ≡ Some v → o ≡ Some w → v ≡ w
 some_same v w o h k = let same : Some v ≡ Some w = sym h ∙ k in cc
 
-pub one_task : (words : List Text) (a b : Task) → AsksFor words a → AsksFor words b → a ≡ b
+pub one_task : (words : List Text) (a b : Task) → ParsesTo words a → ParsesTo words b → a ≡ b
 one_task [] a b h k = absurd h
 one_task (first ∷ rest) a b h k =
     let same = some_same (task_word a) (task_word b) (command_word first) h.0 k.0 in
@@ -67,7 +67,7 @@ bound_is_named given task.Automaton h = refl
 bound_is_named given task.Accepts h = refl
 
 -- words that ask for something are taken
-pub asking_is_taken : (words : List Text) (task : Task) → AsksFor words task → are_taken words ≡ true
+pub asking_is_taken : (words : List Text) (task : Task) → ParsesTo words task → are_taken words ≡ true
 asking_is_taken [] task h = absurd h
 asking_is_taken (first ∷ rest) task h =
     let w = task_word task in

@@ -131,8 +131,8 @@ AreItsNumbers given task.Accepts = Unit {0}
 
 -- The words ask for this: the first names its command, `clap` takes them for that command, and its numbers are those of the words
 -- that `clap` gives the command's arguments.
-abbrev pub AsksFor : List Text → Task → Type 0
-AsksFor [] task = ⊥
-AsksFor (first ∷ rest) task =
+abbrev pub ParsesTo : List Text → Task → Type 0
+ParsesTo [] task = ⊥
+ParsesTo (first ∷ rest) task =
     (command_word first ≡ Some (task_word task)) × (takes_words (command (task_word task)) (first ∷ rest) ≡ true)
     × AreItsNumbers (given_word (command (task_word task)) (first ∷ rest)) task

@@ -6,7 +6,7 @@
 //!
 //! Its contract speaks in the words of `clap`'s own definitions. `command` is the command that `clap` is handed for a
 //! command word (`specs/Commands`, from the rows of `specs/Arguments`), `are_taken` says that no step of its parse
-//! fails and that a bound of `synth` is one of these words, and `AsksFor` names each number as what `clap` gives that
+//! fails and that a bound of `synth` is one of these words, and `ParsesTo` names each number as what `clap` gives that
 //! argument. So a refusal that is not for want of memory comes exactly where `clap` refuses the words or that bound is
 //! no such word, and a taken option has its number, or its default, within the range of its row. Words ask for at most
 //! one thing, by the law `words_ask_for_one_thing`.

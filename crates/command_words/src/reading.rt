@@ -4,7 +4,7 @@ ghost use Rattle.std.specs.Prelude.{◌≡◌, ◌≢◌, ◌<◌, ◌^◌, ℕ,
 ghost use Rattle.std.specs.Prelude.{codes, option_and_then};
 ghost use Rattle.command_words.specs.Arguments.{given_word, takes_words};
 ghost use Rattle.command_words.specs.Bounds.{bound_named};
-ghost use Rattle.command_words.specs.Commands.{AsksFor, AreItsNumbers, are_taken, command, has_bound, task_word};
+ghost use Rattle.command_words.specs.Commands.{ParsesTo, AreItsNumbers, are_taken, command, has_bound, task_word};
 ghost use Rattle.command_words.specs.internal.Matches.{ParsedBy, matched_number, matched_word};
 
 use crate::argument::command_of;
@@ -103,7 +103,7 @@ fn task_by(word: CommandWord, matches: &ArgMatches<'_>) -> Option<Task>
 /// of `synth` is no word for one. `NoMemory`.
 pub fn task_of(alloc: Global, words: &[String]) -> Result<Task, WordsError>
     ensures taken { IfOk result (λ task. are_taken (map string_bytes words.now) ≡ true) }
-    ensures asks { IfOk result (AsksFor (map string_bytes words.now)) }
+    ensures asks { IfOk result (ParsesTo (map string_bytes words.now)) }
     ensures refused { IfErr result (λ e. e ≡ WordsError.Usage → are_taken (map string_bytes words.now) ≡ false) }
 {
     let [first, ..] = words else {

@@ -26,25 +26,25 @@ heads_behind heads before (d ∷ ds) =
 pub heads_within : (heads : List Name) (ds : List Declaration) → heads_size ds ≤ length (occurrences heads ds)
 heads_within heads ds = heads_behind heads [] ds
 
-items_below : (most : ℕ) {room : ℕ} {xs : List Terminal} {fs : List FormulaSyntax} → room < most → AreItems room xs fs →
+items_below : (most : ℕ) {levels_left : ℕ} {xs : List Terminal} {fs : List FormulaSyntax} → levels_left < most → AreItems levels_left xs fs →
     AllByRecursion (λ f. depth f < most) fs
 items_below most few nothing = tt
 items_below most few (last_item h) = (omega (arith, few, formula_fits h), tt)
 items_below most few (item h k) = (omega (arith, few, formula_fits h), items_below most few k)
 
-section_below : (most : ℕ) {room : ℕ} {xs : List Terminal} {s : SectionSyntax} → room < most → IsSection room xs s → IsBelowDepth most (the_section s)
+section_below : (most : ℕ) {levels_left : ℕ} {xs : List Terminal} {s : SectionSyntax} → levels_left < most → IsSection levels_left xs s → IsBelowDepth most (the_section s)
 section_below most few (braces h k) = items_below most few k
 
-definition_below : (most : ℕ) {room : ℕ} {xs : List Terminal} {d : Definition} → room < most → IsDefinition room xs d →
+definition_below : (most : ℕ) {levels_left : ℕ} {xs : List Terminal} {d : Definition} → levels_left < most → IsDefinition levels_left xs d →
     IsBelowDepth most (the_definition d)
 definition_below most few (equation x ps h) = omega (arith, few, formula_fits h)
 
-declarations_below : (most : ℕ) {room : ℕ} {xs own : List Terminal} {ds : List Declaration} → room < most → AreDeclarations room xs own ds →
+declarations_below : (most : ℕ) {levels_left : ℕ} {xs own : List Terminal} {ds : List Declaration} → levels_left < most → AreDeclarations levels_left xs own ds →
     AllByRecursion (IsBelowDepth most) ds
 declarations_below most few no_declaration = tt
 declarations_below most few (a_section h k) = (section_below most few h, declarations_below most few k)
 declarations_below most few (a_definition h k) = (definition_below most few h, declarations_below most few k)
 
-pub levels_below : (most room : ℕ) (xs own : List Terminal) (ds : List Declaration) → room < most → AreDeclarations room xs own ds →
+pub levels_below : (most levels_left : ℕ) (xs own : List Terminal) (ds : List Declaration) → levels_left < most → AreDeclarations levels_left xs own ds →
     AllByRecursion (IsBelowDepth most) ds
-levels_below most room xs own ds few h = declarations_below most few h
+levels_below most levels_left xs own ds few h = declarations_below most few h

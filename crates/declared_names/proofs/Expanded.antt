@@ -72,10 +72,10 @@ body_plain all named rank (the_definition e ∷ ds) zero d at h =
     subst (λ (f : Definition). Plain (InBody (Passing (occurs_plain all)) f.parameters) named rank f.body) (same_Some e d at) h.0
 body_plain all named rank (the_definition e ∷ ds) (suc i) d at h = body_plain all named rank ds i d at h.1
 
-definition_derives : {room : ℕ} {xs : List Terminal} {d : Definition} → IsDefinition room xs d → Derivable d.body
-definition_derives {room = room} (equation {xs = xs} x ps h) = record { room = room; terminals = xs; derived = h }
+definition_derives : {levels_left : ℕ} {xs : List Terminal} {d : Definition} → IsDefinition levels_left xs d → Derivable d.body
+definition_derives {levels_left = levels_left} (equation {xs = xs} x ps h) = record { levels_left = levels_left; terminals = xs; derived = h }
 
-body_derives : {room : ℕ} {xs own : List Terminal} {ds : List Declaration} → AreDeclarations room xs own ds → (i : ℕ) (d : Definition) →
+body_derives : {levels_left : ℕ} {xs own : List Terminal} {ds : List Declaration} → AreDeclarations levels_left xs own ds → (i : ℕ) (d : Definition) →
     slice_get (definitions_in ds) i ≡ Some d → Derivable d.body
 body_derives no_declaration i d at = absurd (none-some d at)
 body_derives (a_section h k) i d at = body_derives k i d at
@@ -130,7 +130,7 @@ module _ (ds : List Declaration) (well : AreNamedWell ds) where
   sections_occur [] uses plain = tt
   sections_occur (s ∷ ss) uses plain = (formulas_occur s.formulas uses.0 plain.0, sections_occur ss uses.1 plain.1)
 
-  module _ {room : ℕ} {xs own : List Terminal} (derived : AreDeclarations room xs own ds) where
+  module _ {levels_left : ℕ} {xs own : List Terminal} (derived : AreDeclarations levels_left xs own ds) where
     bodies : BodiesDerive named
     bodies x d found =
         let at = named_at defined x d found in
@@ -153,14 +153,14 @@ module _ (ds : List Declaration) (well : AreNamedWell ds) where
   -- ---- levels
 
   -- no formula of a section needs a level above the deepest one, in the text as it is written
-  items_derivable : {room : ℕ} {xs : List Terminal} {fs : List FormulaSyntax} → AreItems room xs fs →
-      AllByRecursion (λ f. Derivable f × (depth f ≤ room)) fs
+  items_derivable : {levels_left : ℕ} {xs : List Terminal} {fs : List FormulaSyntax} → AreItems levels_left xs fs →
+      AllByRecursion (λ f. Derivable f × (depth f ≤ levels_left)) fs
   items_derivable nothing = tt
-  items_derivable {room = room} (last_item {xs = xs} h) = ((record { room = room; terminals = xs; derived = h }, formula_fits h), tt)
-  items_derivable {room = room} (item {xs = xs} h k) = ((record { room = room; terminals = xs; derived = h }, formula_fits h), items_derivable k)
+  items_derivable {levels_left = levels_left} (last_item {xs = xs} h) = ((record { levels_left = levels_left; terminals = xs; derived = h }, formula_fits h), tt)
+  items_derivable {levels_left = levels_left} (item {xs = xs} h k) = ((record { levels_left = levels_left; terminals = xs; derived = h }, formula_fits h), items_derivable k)
 
-  sections_derivable : {room : ℕ} {xs own : List Terminal} {es : List Declaration} → AreDeclarations room xs own es →
-      EachFormula (λ f. Derivable f × (depth f ≤ room)) (sections_among es)
+  sections_derivable : {levels_left : ℕ} {xs own : List Terminal} {es : List Declaration} → AreDeclarations levels_left xs own es →
+      EachFormula (λ f. Derivable f × (depth f ≤ levels_left)) (sections_among es)
   sections_derivable no_declaration = tt
   sections_derivable (a_section (braces head items) k) = (items_derivable items, sections_derivable k)
   sections_derivable (a_definition h k) = sections_derivable k

@@ -55,7 +55,7 @@ heads_more old new whole ds i d within is added so_far =
     ∙ ap (λ xs. with_uses old (heads_in xs)) (sym (heads_next ds i d within is))
     ∙ so_far
 
--- room for what the next one defines
+-- levels enough for what the next one defines
 pub heads_few : (most : ℕ) (ds : List ReadDeclaration) (i : ℕ) (d : ReadDeclaration) → i < length ds → d ≡ get_or ds i d →
     most + heads_size (map declaration_syntax (drop i ds)) < 2 ^ 32 →
     (most + head_size (declaration_syntax d)) + heads_size (map declaration_syntax (drop (i + 1) ds)) < 2 ^ 32
@@ -104,7 +104,7 @@ pub next_few : (heads before : List Name) (ds : List ReadDeclaration) (i : ℕ) 
     length (declaration_occurrences heads before (declaration_syntax d)) < 2 ^ 32
 next_few heads before ds i d within is few = omega (arith, few, left_few heads before ds i d within is)
 
--- and room for what it defines
+-- and levels enough for what it defines
 pub next_room : (heads before : List Name) (ds : List ReadDeclaration) (i : ℕ) (d : ReadDeclaration) → i < length ds → d ≡ get_or ds i d →
     length before + length (occurrences_behind heads before (map declaration_syntax (drop i ds))) < 2 ^ 32 →
     length before + head_size (declaration_syntax d) < 2 ^ 32

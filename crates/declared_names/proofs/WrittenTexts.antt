@@ -111,11 +111,11 @@ module _ (s : Scope) where
         ∙ sym (no_name_many op (written f ++ written_further op fs))
 
   -- what derives has the names of its terminals
-  derived_texts : {room : ℕ} {xs : List Terminal} {a : FormulaSyntax} (level : ℕ) → IsFormula room xs a →
+  derived_texts : {levels_left : ℕ} {xs : List Terminal} {a : FormulaSyntax} (level : ℕ) → IsFormula levels_left xs a →
       texts (formula_occurrences s level a) ≡ free_names xs
   derived_texts {a = a} level h = formula_texts level a ∙ ap free_names (sym (formula_is h))
 
-  items_texts : {room : ℕ} {xs : List Terminal} {fs : List FormulaSyntax} → AreItems room xs fs →
+  items_texts : {levels_left : ℕ} {xs : List Terminal} {fs : List FormulaSyntax} → AreItems levels_left xs fs →
       texts (flat_map (formula_occurrences s 0) fs) ≡ free_names xs
   items_texts nothing = refl
   items_texts (last_item {f = f} h) = ap texts (append-nil (formula_occurrences s 0 f)) ∙ derived_texts 0 h
@@ -130,7 +130,7 @@ head_has_no_name initially_guarantee = refl
 head_has_no_name always_assume = refl
 head_has_no_name always_guarantee = refl
 
-section_texts : (heads : List Name) {room : ℕ} {xs : List Terminal} {s : SectionSyntax} → IsSection room xs s →
+section_texts : (heads : List Name) {levels_left : ℕ} {xs : List Terminal} {s : SectionSyntax} → IsSection levels_left xs s →
     texts (section_occurrences heads s) ≡ free_names xs
 section_texts heads (braces {xs = xs} {ys = ys} h k) =
     items_texts (of_section heads) k
@@ -141,7 +141,7 @@ parameters_texts : (is_defined is_twice : List ℕ → Bool) (ps : List (List �
 parameters_texts is_defined is_twice [] = refl
 parameters_texts is_defined is_twice (p ∷ ps) = ap (λ xs. p ∷ xs) (parameters_texts is_defined is_twice ps)
 
-definition_texts : (heads before : List Name) {room : ℕ} {xs : List Terminal} {d : Definition} → IsDefinition room xs d →
+definition_texts : (heads before : List Name) {levels_left : ℕ} {xs : List Terminal} {d : Definition} → IsDefinition levels_left xs d →
     texts (definition_occurrences heads before d) ≡ free_names xs
 definition_texts heads before (equation {xs = xs} {a = a} x ps h) =
     ap (λ ts. x ∷ ts)
@@ -149,7 +149,7 @@ definition_texts heads before (equation {xs = xs} {a = a} x ps h) =
     (parameters_texts (is_name heads) (is_repeated ps) ps)
     (derived_texts (of_body heads ps) 0 h ∙ sym (closed xs Semicolon)))
 
-behind_texts : (heads before : List Name) {room : ℕ} {xs own : List Terminal} {ds : List Declaration} → AreDeclarations room xs own ds →
+behind_texts : (heads before : List Name) {levels_left : ℕ} {xs own : List Terminal} {ds : List Declaration} → AreDeclarations levels_left xs own ds →
     texts (occurrences_behind heads before ds) ≡ free_names xs
 behind_texts heads before no_declaration = refl
 behind_texts heads before (a_section {xs = xs} {ys = ys} {s = s} {ds = ds} h k) =
@@ -159,6 +159,6 @@ behind_texts heads before (a_definition {xs = xs} {ys = ys} {d = d} {ds = ds} h 
     (definition_texts heads before h) (behind_texts heads (with_uses before (head_names (the_definition d))) k)
 
 -- each name of a text occurs once, in the order of the text
-pub occurrences_texts : (heads : List Name) (room : ℕ) (xs own : List Terminal) (ds : List Declaration) → AreDeclarations room xs own ds →
+pub occurrences_texts : (heads : List Name) (levels_left : ℕ) (xs own : List Terminal) (ds : List Declaration) → AreDeclarations levels_left xs own ds →
     map (λ o. o.text) (occurrences heads ds) ≡ free_names xs
-occurrences_texts heads room xs own ds h = behind_texts heads [] h
+occurrences_texts heads levels_left xs own ds h = behind_texts heads [] h

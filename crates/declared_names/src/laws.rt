@@ -29,8 +29,8 @@ ghost use Rattle.declared_names.specs.WellDeclared.{NoneOnCycle, AreLevels, is_u
 
 /// The names of a text that are no reserved words are, in order, those of its occurrences.
 pub fn occurrences_stand_in_order()
-    ensures { (heads : List Name) (room : ℕ) (xs own : List Terminal) (ds : List Declaration)
-        → AreDeclarations room xs own ds
+    ensures { (heads : List Name) (levels_left : ℕ) (xs own : List Terminal) (ds : List Declaration)
+        → AreDeclarations levels_left xs own ds
         → map (λ o. o.text) (occurrences heads ds) ≡ free_names xs }
 {}
 
@@ -38,8 +38,8 @@ pub fn occurrences_stand_in_order()
 pub fn names_and_levels_are_few()
     ensures heads { (heads : List Name) (ds : List Declaration)
         → heads_size ds ≤ length (occurrences heads ds) }
-    ensures levels { (most room : ℕ) (xs own : List Terminal) (ds : List Declaration) → room < most
-        → AreDeclarations room xs own ds → AllByRecursion (IsBelowDepth most) ds }
+    ensures levels { (most levels_left : ℕ) (xs own : List Terminal) (ds : List Declaration) → levels_left < most
+        → AreDeclarations levels_left xs own ds → AllByRecursion (IsBelowDepth most) ds }
 {}
 
 /// Where no name is redefined, the defined names of a text by first appearance are one for each definition.
@@ -106,8 +106,8 @@ pub fn expansions_are_within_levels()
 /// Where the names of a text are well, each name of what it expands to is used as at some plain occurrence
 /// of the text.
 pub fn expansions_use_names_as_they_occur()
-    ensures { (ds : List Declaration) (room r : ℕ) (xs own ys : List Terminal) (rs : List SectionSyntax)
-        → AreNamedWell ds → AreDeclarations room xs own ds
+    ensures { (ds : List Declaration) (levels_left r : ℕ) (xs own ys : List Terminal) (rs : List SectionSyntax)
+        → AreNamedWell ds → AreDeclarations levels_left xs own ds
         → Expands (as_written (named_in (definitions_in ds))) own ys → AreSections r ys rs
         → EachFormula (Occurs (Passing (occurs_plain (names_in ds)))) rs }
 {}

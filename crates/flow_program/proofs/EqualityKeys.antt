@@ -13,10 +13,10 @@ use Rattle.std.proofs.lemmas.List.{append-nil, map-append, take_more, take-appen
 use Rattle.std.proofs.lemmas.List.Folds.{list_all-append, list_any-append}
 use Rattle.std.proofs.Math.Bool.{and_assoc, and-true, and-false}
 use Rattle.program_listing.specs.declared.listing.SpelledPlaced.{SpelledPlaced}
-use Rattle.program_listing.specs.Listing.{PhraseTree, bare, applied, PhraseTrees, no_phrases, more_phrases, PlacedLine, name_bytes}
+use Rattle.program_listing.specs.Listing.{SurfaceTermTree, bare, applied, SurfaceTermTrees, no_surfaces, more_surfaces, PlacedLine, name_bytes}
 use Rattle.program_listing.specs.Listing.{placed_line}
-use Rattle.flow_program.specs.Rules.{same_phrase, same_phrases, may_follow, are_in_order}
-use Rattle.flow_program.specs.internal.EqualityKeys.{is_pairwise, does_not_fall, are_apart, phrase_key, phrases_key, placed_key}
+use Rattle.flow_program.specs.Rules.{same_surface, same_surfaces, may_follow, are_in_order}
+use Rattle.flow_program.specs.internal.EqualityKeys.{is_pairwise, does_not_fall, are_apart, surface_key, surfaces_key, placed_key}
 
 -- ---- keys are the same exactly where the spellings are
 
@@ -43,34 +43,34 @@ names_told (x ∷ m) (y ∷ n) u v =
 
 module _ (text : List ℕ) where
   mutual
-    phrase_told : (p q : PhraseTree) (u v : List ℕ)
-        → bytes_eq (phrase_key text p ++ u) (phrase_key text q ++ v) ≡ (same_phrase text p q && bytes_eq u v)
-    phrase_told (bare m) (bare n) u v = names_told (name_bytes text m) (name_bytes text n) u v
-    phrase_told (bare m) (applied n qs) u v = refl
-    phrase_told (applied m ps) (bare n) u v = refl
-    phrase_told (applied m ps) (applied n qs) u v =
+    surface_told : (p q : SurfaceTermTree) (u v : List ℕ)
+        → bytes_eq (surface_key text p ++ u) (surface_key text q ++ v) ≡ (same_surface text p q && bytes_eq u v)
+    surface_told (bare m) (bare n) u v = names_told (name_bytes text m) (name_bytes text n) u v
+    surface_told (bare m) (applied n qs) u v = refl
+    surface_told (applied m ps) (bare n) u v = refl
+    surface_told (applied m ps) (applied n qs) u v =
         (λ i. (length (name_bytes text m) == length (name_bytes text n))
-        && bytes_eq (append_assoc (name_bytes text m) (phrases_key text ps) u i) (append_assoc (name_bytes text n) (phrases_key text qs) v i))
-        ∙ names_told (name_bytes text m) (name_bytes text n) (phrases_key text ps ++ u) (phrases_key text qs ++ v)
-        ∙ ap (λ b. bytes_eq (name_bytes text m) (name_bytes text n) && b) (phrases_told ps qs u v)
-        ∙ sym (and_assoc (bytes_eq (name_bytes text m) (name_bytes text n)) (same_phrases text ps qs) (bytes_eq u v))
+        && bytes_eq (append_assoc (name_bytes text m) (surfaces_key text ps) u i) (append_assoc (name_bytes text n) (surfaces_key text qs) v i))
+        ∙ names_told (name_bytes text m) (name_bytes text n) (surfaces_key text ps ++ u) (surfaces_key text qs ++ v)
+        ∙ ap (λ b. bytes_eq (name_bytes text m) (name_bytes text n) && b) (surfaces_told ps qs u v)
+        ∙ sym (and_assoc (bytes_eq (name_bytes text m) (name_bytes text n)) (same_surfaces text ps qs) (bytes_eq u v))
 
-    phrases_told : (ps qs : PhraseTrees) (u v : List ℕ)
-        → bytes_eq (phrases_key text ps ++ u) (phrases_key text qs ++ v) ≡ (same_phrases text ps qs && bytes_eq u v)
-    phrases_told no_phrases no_phrases u v = refl
-    phrases_told no_phrases (more_phrases q qs) u v = refl
-    phrases_told (more_phrases p ps) no_phrases u v = refl
-    phrases_told (more_phrases p ps) (more_phrases q qs) u v =
-        (λ i. bytes_eq (append_assoc (phrase_key text p) (phrases_key text ps) u i)
-        (append_assoc (phrase_key text q) (phrases_key text qs) v i))
-        ∙ phrase_told p q (phrases_key text ps ++ u) (phrases_key text qs ++ v)
-        ∙ ap (λ b. same_phrase text p q && b) (phrases_told ps qs u v)
-        ∙ sym (and_assoc (same_phrase text p q) (same_phrases text ps qs) (bytes_eq u v))
+    surfaces_told : (ps qs : SurfaceTermTrees) (u v : List ℕ)
+        → bytes_eq (surfaces_key text ps ++ u) (surfaces_key text qs ++ v) ≡ (same_surfaces text ps qs && bytes_eq u v)
+    surfaces_told no_surfaces no_surfaces u v = refl
+    surfaces_told no_surfaces (more_surfaces q qs) u v = refl
+    surfaces_told (more_surfaces p ps) no_surfaces u v = refl
+    surfaces_told (more_surfaces p ps) (more_surfaces q qs) u v =
+        (λ i. bytes_eq (append_assoc (surface_key text p) (surfaces_key text ps) u i)
+        (append_assoc (surface_key text q) (surfaces_key text qs) v i))
+        ∙ surface_told p q (surfaces_key text ps ++ u) (surfaces_key text qs ++ v)
+        ∙ ap (λ b. same_surface text p q && b) (surfaces_told ps qs u v)
+        ∙ sym (and_assoc (same_surface text p q) (same_surfaces text ps qs) (bytes_eq u v))
 
-  key_told : (p q : PhraseTree) → bytes_eq (phrase_key text p) (phrase_key text q) ≡ same_phrase text p q
+  key_told : (p q : SurfaceTermTree) → bytes_eq (surface_key text p) (surface_key text q) ≡ same_surface text p q
   key_told p q =
-      sym (λ i. bytes_eq (append-nil (phrase_key text p) i) (append-nil (phrase_key text q) i))
-      ∙ phrase_told p q [] [] ∙ and-true (same_phrase text p q)
+      sym (λ i. bytes_eq (append-nil (surface_key text p) i) (append-nil (surface_key text q) i))
+      ∙ surface_told p q [] [] ∙ and-true (same_surface text p q)
 
   pub apart_by_keys : (d e : PlacedLine) → are_apart text d e ≡ not (bytes_eq (placed_key text e) (placed_key text d))
   apart_by_keys d e =
@@ -136,7 +136,7 @@ pub in_order : (text : List ℕ) (es : List PlacedLine)
     → are_in_order text es ≡ (is_pairwise does_not_fall es && is_pairwise (are_apart text) es)
 in_order text es =
     in_pairs text es
-    ∙ pairwise_both (may_follow text) does_not_fall (are_apart text) (λ d e. follows d.step e.step (same_phrase text d.test e.test)) es
+    ∙ pairwise_both (may_follow text) does_not_fall (are_apart text) (λ d e. follows d.step e.step (same_surface text d.test e.test)) es
 
 pub falls : (within : Bool) (text : List ℕ) (es : List PlacedLine) → is_pairwise does_not_fall es ≡ false
     → false ≡ (within && are_in_order text es)

@@ -19,10 +19,10 @@ use Rattle.tsl_terms.specs.Equality.{names_equality, equality_in}
 use Rattle.tsl_terms.specs.Congruence.{IsEquality}
 use Rattle.tsl_terms.proofs.EqualityLemmas.{found_is_equality, named_so}
 use Rattle.program_listing.specs.declared.listing.Name.{Name}
-use Rattle.program_listing.specs.Listing.{PhraseTree, bare, applied, PhraseTrees, no_phrases, more_phrases, count_of_phrases, name_bytes}
+use Rattle.program_listing.specs.Listing.{SurfaceTermTree, bare, applied, SurfaceTermTrees, no_surfaces, more_surfaces, count_of_surfaces, name_bytes}
 use Rattle.program_listing.specs.Listing.{PlacedLine}
 use Rattle.program_tree.specs.Fits.{may_follow as may_stand_behind, are_in_order as stand_in_order}
-use Rattle.flow_program.specs.Rules.{same_phrase, same_phrases, is_equality_test, is_equality_within, may_follow, are_in_order}
+use Rattle.flow_program.specs.Rules.{same_surface, same_surfaces, is_equality_test, is_equality_within, may_follow, are_in_order}
 use Rattle.flow_program.specs.internal.Numbering.{small, numbered, numbered_term, numbered_terms, numbered_test, numbered_equated}
 use Rattle.flow_program.specs.internal.Numbering.{probe_with, equated_of}
 use Rattle.flow_program.proofs.NumberLemmas.{place_at}
@@ -30,20 +30,20 @@ use Rattle.flow_program.proofs.NumberLemmas.{place_at}
 module _ (names : List NameEntry) (text : List ℕ) where
   -- ---- parts of what has numbers
 
-  applied_parts : (at : Name) (ps : PhraseTrees) (t : TermTree) → numbered_term names text (applied at ps) ≡ Some t →
+  applied_parts : (at : Name) (ps : SurfaceTermTrees) (t : TermTree) → numbered_term names text (applied at ps) ≡ Some t →
       (f : ℕ) × (ts : TermTrees) × (numbered names text at ≡ Some f) × (numbered_terms names text ps ≡ Some ts) × (apply f ts ≡ t)
   applied_parts at ps t is =
       option_and_then_some _ (numbered names text at) t is (λ f f_is made.
       let rest = some_mapped (apply f) (numbered_terms names text ps) t made in (f, rest.0, f_is, rest.1, rest.2))
 
-  more_parts : (p : PhraseTree) (ps : PhraseTrees) (ts : TermTrees) → numbered_terms names text (more_phrases p ps) ≡ Some ts →
+  more_parts : (p : SurfaceTermTree) (ps : SurfaceTermTrees) (ts : TermTrees) → numbered_terms names text (more_surfaces p ps) ≡ Some ts →
       (t : TermTree) × (us : TermTrees) × (numbered_term names text p ≡ Some t) × (numbered_terms names text ps ≡ Some us)
       × (more_terms t us ≡ ts)
   more_parts p ps ts is =
       option_and_then_some _ (numbered_term names text p) ts is (λ t t_is made.
       let rest = some_mapped (more_terms t) (numbered_terms names text ps) ts made in (t, rest.0, t_is, rest.1, rest.2))
 
-  test_parts : (at : Name) (ps : PhraseTrees) (p : ProbeTree) → numbered_test names text (applied at ps) ≡ Some p →
+  test_parts : (at : Name) (ps : SurfaceTermTrees) (p : ProbeTree) → numbered_test names text (applied at ps) ≡ Some p →
       (f : ℕ) × (ts : TermTrees) × (numbered names text at ≡ Some f) × (numbered_terms names text ps ≡ Some ts) × (probe_with f ts ≡ p)
   test_parts at ps p is =
       option_and_then_some _ (numbered names text at) p is (λ f f_is made.
@@ -55,9 +55,9 @@ module _ (names : List NameEntry) (text : List ℕ) where
       option_and_then_some _ (numbered names text at) p is (λ s s_is made.
       let rest = some_mapped (λ q. probe_with q (more_terms (signal s) no_terms)) (number_of names question) p made in (s, rest.0, rest.2))
 
-  count_alike : (ps : PhraseTrees) (ts : TermTrees) → numbered_terms names text ps ≡ Some ts → count_of_phrases ps ≡ count_of_terms ts
-  count_alike no_phrases ts is = ap count_of_terms (same_Some no_terms ts is)
-  count_alike (more_phrases p ps) ts is =
+  count_alike : (ps : SurfaceTermTrees) (ts : TermTrees) → numbered_terms names text ps ≡ Some ts → count_of_surfaces ps ≡ count_of_terms ts
+  count_alike no_surfaces ts is = ap count_of_terms (same_Some no_terms ts is)
+  count_alike (more_surfaces p ps) ts is =
       let parts = more_parts p ps ts is in
       ap (λ n. 1 + n) (count_alike ps parts.1 parts.3) ∙ ap count_of_terms parts.4
 
@@ -83,8 +83,8 @@ module _ (names : List NameEntry) (text : List ℕ) where
           absurd (false≢true (sym e ∙ bytes_same (name_bytes text m) (name_bytes text n) bytes))
 
   mutual
-    same_terms : (p q : PhraseTree) (t u : TermTree) → numbered_term names text p ≡ Some t → numbered_term names text q ≡ Some u →
-        same_phrase text p q ≡ same_tree t u
+    same_terms : (p q : SurfaceTermTree) (t u : TermTree) → numbered_term names text p ≡ Some t → numbered_term names text q ≡ Some u →
+        same_surface text p q ≡ same_tree t u
     same_terms (bare m) (bare n) t u is too =
         let a = some_mapped signal (numbered names text m) t is in
         let b = some_mapped signal (numbered names text n) u too in
@@ -102,16 +102,16 @@ module _ (names : List NameEntry) (text : List ℕ) where
         let b = applied_parts n qs u too in
         (λ i. same_names m n a.0 b.0 a.2 b.2 i && same_lists ps qs a.1 b.1 a.3 b.3 i) ∙ (λ i. same_tree (a.4 i) (b.4 i))
 
-    same_lists : (ps qs : PhraseTrees) (ts us : TermTrees) → numbered_terms names text ps ≡ Some ts → numbered_terms names text qs ≡ Some us →
-        same_phrases text ps qs ≡ same_trees ts us
-    same_lists no_phrases no_phrases ts us is too = λ i. same_trees (same_Some no_terms ts is i) (same_Some no_terms us too i)
-    same_lists no_phrases (more_phrases q qs) ts us is too =
+    same_lists : (ps qs : SurfaceTermTrees) (ts us : TermTrees) → numbered_terms names text ps ≡ Some ts → numbered_terms names text qs ≡ Some us →
+        same_surfaces text ps qs ≡ same_trees ts us
+    same_lists no_surfaces no_surfaces ts us is too = λ i. same_trees (same_Some no_terms ts is i) (same_Some no_terms us too i)
+    same_lists no_surfaces (more_surfaces q qs) ts us is too =
         let b = more_parts q qs us too in
         λ i. same_trees (same_Some no_terms ts is i) (b.4 i)
-    same_lists (more_phrases p ps) no_phrases ts us is too =
+    same_lists (more_surfaces p ps) no_surfaces ts us is too =
         let a = more_parts p ps ts is in
         λ i. same_trees (a.4 i) (same_Some no_terms us too i)
-    same_lists (more_phrases p ps) (more_phrases q qs) ts us is too =
+    same_lists (more_surfaces p ps) (more_surfaces q qs) ts us is too =
         let a = more_parts p ps ts is in
         let b = more_parts q qs us too in
         (λ i. same_terms p q a.0 b.0 a.2 b.2 i && same_lists ps qs a.1 b.1 a.3 b.3 i) ∙ (λ i. same_trees (a.4 i) (b.4 i))
@@ -125,7 +125,7 @@ module _ (names : List NameEntry) (text : List ℕ) where
       ∙ ap Some (sym (same_bytes (codes "eq") found.0.text (and_parts _ _ found.2).0))
 
   -- a test whose probe is an equality is one
-  pub test_of_equality : (p : PhraseTree) (t : ProbeTree) → numbered_test names text p ≡ Some t → IsEquality (equality_in names) t →
+  pub test_of_equality : (p : SurfaceTermTree) (t : ProbeTree) → numbered_test names text p ≡ Some t → IsEquality (equality_in names) t →
       is_equality_test text p ≡ true
   test_of_equality (bare at) t is equal =
       let a = bare_parts at t is in
@@ -137,19 +137,19 @@ module _ (names : List NameEntry) (text : List ℕ) where
       let there = equality_at a.0 (equal.predicate ∙ ap Some predicate) in
       let bytes : name_bytes text at ≡ codes "eq" =
       one_value (slice_get (texts names) a.0) (name_bytes text at) (codes "eq") (place_at (texts names) (name_bytes text at) a.0 a.2) there in
-      let count : count_of_phrases ps ≡ 2 = count_alike ps a.1 a.3 ∙ ap (λ (q : ProbeTree). count_of_terms q.arguments) a.4 ∙ equal.two in
-      and_from (bytes_eq (name_bytes text at) (codes "eq")) (count_of_phrases ps == 2) (bytes_same (name_bytes text at) (codes "eq") bytes)
-      (eq-eqb (count_of_phrases ps) 2 count)
+      let count : count_of_surfaces ps ≡ 2 = count_alike ps a.1 a.3 ∙ ap (λ (q : ProbeTree). count_of_terms q.arguments) a.4 ∙ equal.two in
+      and_from (bytes_eq (name_bytes text at) (codes "eq")) (count_of_surfaces ps == 2) (bytes_same (name_bytes text at) (codes "eq") bytes)
+      (eq-eqb (count_of_surfaces ps) 2 count)
 
   -- and the probe of such a test is an equality
-  pub equality_of_test : AreDistinct names → (p : PhraseTree) (t : ProbeTree) → numbered_test names text p ≡ Some t →
+  pub equality_of_test : AreDistinct names → (p : SurfaceTermTree) (t : ProbeTree) → numbered_test names text p ≡ Some t →
       probe_fits names t ≡ true → is_equality_test text p ≡ true → IsEquality (equality_in names) t
   equality_of_test distinct (bare at) t is fits equal = absurd (false≢true equal)
   equality_of_test distinct (applied at ps) t is fits equal =
       let a = test_parts at ps t is in
-      let parts = and_parts (bytes_eq (name_bytes text at) (codes "eq")) (count_of_phrases ps == 2) equal in
+      let parts = and_parts (bytes_eq (name_bytes text at) (codes "eq")) (count_of_surfaces ps == 2) equal in
       let two : count_of_terms t.arguments ≡ 2 =
-      sym (count_alike ps a.1 a.3 ∙ ap (λ (q : ProbeTree). count_of_terms q.arguments) a.4) ∙ eqb-true (count_of_phrases ps) 2 parts.1 in
+      sym (count_alike ps a.1 a.3 ∙ ap (λ (q : ProbeTree). count_of_terms q.arguments) a.4) ∙ eqb-true (count_of_surfaces ps) 2 parts.1 in
       let named : is_name names t.predicate Predicate (count_of_terms t.arguments) ≡ true =
       (and_parts (is_name names t.predicate Predicate (count_of_terms t.arguments)) (terms_fit names t.arguments)
       (and_parts (is_name names t.predicate Predicate (count_of_terms t.arguments) && terms_fit names t.arguments)
@@ -205,8 +205,8 @@ module _ (names : List NameEntry) (text : List ℕ) where
   abbrev pub AreEqualityTests : List PlacedLine → Type 0
   AreEqualityTests = AllByRecursion (λ e. is_equality_test text e.test ≡ true)
 
-  same_equalities : (p q : PhraseTree) (t u : ProbeTree) → numbered_test names text p ≡ Some t → numbered_test names text q ≡ Some u →
-      is_equality_test text p ≡ true → is_equality_test text q ≡ true → same_phrase text p q ≡ same_probe_tree t u
+  same_equalities : (p q : SurfaceTermTree) (t u : ProbeTree) → numbered_test names text p ≡ Some t → numbered_test names text q ≡ Some u →
+      is_equality_test text p ≡ true → is_equality_test text q ≡ true → same_surface text p q ≡ same_probe_tree t u
   same_equalities (bare m) q t u is too one other = absurd (false≢true one)
   same_equalities (applied m ps) (bare n) t u is too one other = absurd (false≢true other)
   same_equalities (applied m ps) (applied n qs) t u is too one other =

@@ -11,7 +11,7 @@ use Rattle.tsl_terms.specs.Name.{Name}
 use Rattle.tsl_terms.specs.TermTree.{TermTree, ProbeTree, TermTrees, no_terms, more_terms, terms_of, term_tree}
 use Rattle.tsl_terms.proofs.TermLemmas.{with_front_none}
 use Rattle.tsl_terms.specs.WindowTree.{ListedTree, EquatedTree}
-use Rattle.program_listing.specs.Listing.{PhraseTree, PhraseTrees, more_phrases, UpdateLine, ListedLine, PlacedLine, WindowLine}
+use Rattle.program_listing.specs.Listing.{SurfaceTermTree, SurfaceTermTrees, more_surfaces, UpdateLine, ListedLine, PlacedLine, WindowLine}
 use Rattle.program_listing.specs.Listing.{branch_line, assignment_line, left_step}
 use Rattle.program_tree.specs.NodeTree.{branch, assign}
 use Rattle.flow_program.specs.internal.Numbering.{small, numbered, numbered_term, numbered_terms, numbered_test, numbered_listed}
@@ -29,10 +29,10 @@ abbrev pub numbered_front : List TermTree → Option TermTrees → Option TermTr
 numbered_front front rest = option_map (with_front more_terms front) rest
 
 -- one term more
-pub numbered_more : (names : List Name) (text : List ℕ) (front all : List Term) (t : Term) (p : PhraseTree) (rest : PhraseTrees) →
+pub numbered_more : (names : List Name) (text : List ℕ) (front all : List Term) (t : Term) (p : SurfaceTermTree) (rest : SurfaceTermTrees) →
     all ≡ front ++ t ∷ [] → numbered_term names text p ≡ Some (term_tree t) →
     numbered_front (map term_tree all) (numbered_terms names text rest)
-    ≡ numbered_front (map term_tree front) (numbered_terms names text (more_phrases p rest))
+    ≡ numbered_front (map term_tree front) (numbered_terms names text (more_surfaces p rest))
 numbered_more names text front all t p rest is h = rw (is, h) (by (numbered_terms names text rest)) where
   by : (found : Option TermTrees) →
       numbered_front (map term_tree (front ++ t ∷ [])) found ≡ numbered_front (map term_tree front) (option_map (more_terms
@@ -79,7 +79,7 @@ module _ (names : List Name) (text : List ℕ) where
       ∙ ap (option_and_then (λ xs. option_map (window_of l r (left_step w.left) w.right.step xs) equal)) updates
       ∙ ap (option_map (window_of l r (left_step w.left) w.right.step us)) equalities
 
-  pub branch_numbered : (p : PhraseTree) (t : ProbeTree) (a b : ℕ) → numbered_test names text p ≡ Some t → small a ≡ Some a →
+  pub branch_numbered : (p : SurfaceTermTree) (t : ProbeTree) (a b : ℕ) → numbered_test names text p ≡ Some t → small a ≡ Some a →
       small b ≡ Some b → numbered_node names text (branch_line p a b) ≡ Some (branch t a b)
   branch_numbered p t a b test then_node else_node =
       ap (option_and_then (λ x. option_and_then (λ i. option_map (branch x i) (small b)) (small a))) test

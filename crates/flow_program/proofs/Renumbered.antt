@@ -13,7 +13,7 @@ use Rattle.tsl_terms.specs.WindowTree.{ListedTree, EquatedTree, WindowTree}
 use Rattle.tsl_terms.specs.Equality.{equality_in}
 use Rattle.tsl_terms.specs.Congruence.{IsCongruent}
 use Rattle.program_listing.specs.declared.listing.Name.{Name as Place}
-use Rattle.program_listing.specs.Listing.{PhraseTree, bare, applied, PhraseTrees, no_phrases, more_phrases, name_bytes}
+use Rattle.program_listing.specs.Listing.{SurfaceTermTree, bare, applied, SurfaceTermTrees, no_surfaces, more_surfaces, name_bytes}
 use Rattle.program_listing.specs.Listing.{ListedLine, PlacedLine, WindowLine, left_step}
 use Rattle.program_listing.proofs.OneListing.{one_listing}
 use Rattle.program_tree.specs.ProgramTree.{ProgramTree}
@@ -98,7 +98,7 @@ module _ (names more : List Name) where
     AreRenamed ts us = (us ≡ all_renamed stands_for ts) × HaveNames stands_for IsNamed stands_apart ts
 
     -- an application, and one term more in front, where the terms have their other numbers
-    application : (at : Place) (ps : PhraseTrees) (f g : ℕ) (t u : TermTree) →
+    application : (at : Place) (ps : SurfaceTermTrees) (f g : ℕ) (t u : TermTree) →
         ((ts us : TermTrees) → numbered_terms names text ps ≡ Some ts → numbered_terms more text ps ≡ Some us → AreRenamed ts us) →
         numbered names text at ≡ Some f → numbered more text at ≡ Some g →
         (ts : TermTrees) × (numbered_terms names text ps ≡ Some ts) × (apply f ts ≡ t) →
@@ -108,7 +108,7 @@ module _ (names more : List Name) where
         let rest = arguments a.0 b.0 a.1 b.1 in
         subst (λ x. IsRenamed x u) a.2 (sym b.2 ∙ (λ i. apply (both.1 i) (rest.0 i)), rest.1)
 
-    in_front : (p : PhraseTree) (ps : PhraseTrees) (t u : TermTree) (ts us : TermTrees) → IsRenamed t u →
+    in_front : (p : SurfaceTermTree) (ps : SurfaceTermTrees) (t u : TermTree) (ts us : TermTrees) → IsRenamed t u →
         ((xs ys : TermTrees) → numbered_terms names text ps ≡ Some xs → numbered_terms more text ps ≡ Some ys → AreRenamed xs ys) →
         (xs : TermTrees) × (numbered_terms names text ps ≡ Some xs) × (more_terms t xs ≡ ts) →
         (ys : TermTrees) × (numbered_terms more text ps ≡ Some ys) × (more_terms u ys ≡ us) → AreRenamed ts us
@@ -117,7 +117,7 @@ module _ (names more : List Name) where
         subst (λ x. AreRenamed x us) a.2 (sym b.2 ∙ (λ i. more_terms (first.0 i) (rest.0 i)), (first.1, rest.1))
 
     mutual
-      pub term_renamed : (p : PhraseTree) (t u : TermTree) → numbered_term names text p ≡ Some t → numbered_term more text p ≡ Some u →
+      pub term_renamed : (p : SurfaceTermTree) (t u : TermTree) → numbered_term names text p ≡ Some t → numbered_term more text p ≡ Some u →
           IsRenamed t u
       term_renamed (bare at) t u is too =
           let a = some_mapped signal (numbered names text at) t is in
@@ -131,13 +131,13 @@ module _ (names more : List Name) where
           (some_mapped (apply f) (numbered_terms names text ps) t made)
           (some_mapped (apply g) (numbered_terms more text ps) u other_made)))
 
-      pub terms_renamed : (ps : PhraseTrees) (ts us : TermTrees) → numbered_terms names text ps ≡ Some ts →
+      pub terms_renamed : (ps : SurfaceTermTrees) (ts us : TermTrees) → numbered_terms names text ps ≡ Some ts →
           numbered_terms more text ps ≡ Some us → AreRenamed ts us
-      terms_renamed no_phrases ts us is too =
+      terms_renamed no_surfaces ts us is too =
           let a : no_terms ≡ ts = same_Some no_terms ts is in
           let b : no_terms ≡ us = same_Some no_terms us too in
           subst (λ x. AreRenamed x us) a (sym b, tt)
-      terms_renamed (more_phrases p ps) ts us is too =
+      terms_renamed (more_surfaces p ps) ts us is too =
           let first = term_renamed p in
           let behind = terms_renamed ps in
           option_and_then_some _ (numbered_term names text p) ts is (λ t t_is made.
@@ -161,8 +161,8 @@ module _ (names more : List Name) where
           arguments = rest.1;
         })
 
-    pub test_renamed : (phrase : PhraseTree) (p q : ProbeTree) → numbered_test names text phrase ≡ Some p →
-        numbered_test more text phrase ≡ Some q → IsProbeRenamed p q
+    pub test_renamed : (surface : SurfaceTermTree) (p q : ProbeTree) → numbered_test names text surface ≡ Some p →
+        numbered_test more text surface ≡ Some q → IsProbeRenamed p q
     test_renamed (bare at) p q is too =
         option_and_then_some _ (numbered names text at) p is (λ s s_is made.
         option_and_then_some _ (numbered more text at) q too (λ t t_is other_made. alone at s t p q s_is t_is

@@ -34,7 +34,7 @@ use Rattle.flow_program.specs.ProgramText.{declarations}
 use Rattle.program_tree.specs.Writable.{window_is_writable, HasEqualities}
 use Rattle.program_listing.specs.Listing.{name_bytes}
 use Rattle.program_listing.specs.Listing.{declared_entry, ListedLine}
-use Rattle.program_listing.specs.internal.NamesStand.{is_phrase, name_stands, listed_line_stands, placed_line_stands, left_line_stands}
+use Rattle.program_listing.specs.internal.NamesStand.{is_surface, name_stands, listed_line_stands, placed_line_stands, left_line_stands}
 use Rattle.program_listing.specs.internal.NamesStand.{window_line_stands}
 use Rattle.program_listing.specs.Listing.{PlacedLine, WindowLine, left_step}
 use Rattle.flow_program.specs.Uses.{signal_use, listed_uses, placed_uses, left_uses, window_uses, windows_uses}
@@ -243,7 +243,7 @@ module _ (names : List NameEntry) (readable : List ℕ) (text : List ℕ) (cell_
         let s = k.0.name in
         let name : NameEntry = (signal_use text line u.signal).name in
         let g : ResolvedTerm names readable text u.term = resolved_term names readable text line u.term k.1 in
-        let is_one : is_phrase text u.term ≡ true = (and_parts (name_stands text u.signal) (is_phrase text u.term) stands).1 in
+        let is_one : is_surface text u.term ≡ true = (and_parts (name_stands text u.signal) (is_surface text u.term) stands).1 in
         let signal_text : name_text names s.number ≡ name_bytes text u.signal = text_is names name s in
         record {
           tree = listed_of s.number g.tree u.offset;

@@ -19,7 +19,7 @@ use Rattle.program_tree.specs.Writable.{term_is_writable, node_is_writable}
 use Rattle.flow_program.specs.ProgramText.{updates_text, node_text, nodes_text}
 use Rattle.program_listing.specs.Listing.{name_bytes}
 use Rattle.program_listing.specs.Listing.{UpdateLine, NodeLine, branch_line}
-use Rattle.program_listing.specs.internal.NamesStand.{is_phrase, name_stands, update_line_stands, node_line_stands}
+use Rattle.program_listing.specs.internal.NamesStand.{is_surface, name_stands, update_line_stands, node_line_stands}
 use Rattle.program_listing.specs.Listing.{assignment_line}
 use Rattle.flow_program.specs.Uses.{update_uses, node_uses, nodes_uses}
 use Rattle.flow_program.specs.Rules.{are_texts, breaks_order, goes_nowhere, is_nowhere, breaks_updates}
@@ -77,7 +77,7 @@ module _ (names : List NameEntry) (readable : List ℕ) (text : List ℕ) (contr
       let known = each_left (KnownUse names readable) (update_uses text line u) (flat_map (update_uses text line) us) k in
       let others = each_right (KnownUse names readable) (update_uses text line u) (flat_map (update_uses text line) us) k in
       let stands = and_parts (update_line_stands text u) (list_all (update_line_stands text) us) stand in
-      let is_one : is_phrase text u.term ≡ true = (and_parts (name_stands text u.signal) (is_phrase text u.term) stands.0).1 in
+      let is_one : is_surface text u.term ≡ true = (and_parts (name_stands text u.signal) (is_surface text u.term) stands.0).1 in
       let first : name_text names id ≡ name_bytes text u.signal = cc in
       let more : map (name_text names) ids ≡ map (λ v. name_bytes text v.signal) us = cc in
       let g : ResolvedTerm names readable text u.term = resolved_term names readable text line u.term known.1 in

@@ -1,4 +1,4 @@
--- Phrases whose uses the names know have their numbers, and are written as before.
+-- Surface terms whose uses the names know have their numbers, and are written as before.
 use Rattle.std.proofs.Common.{◌≡◌, ℕ, ◌+◌, ◌==◌, Bool, true, false, ◌&&◌, ◌||◌, List, [], ◌∷◌, ◌++◌, refl, ap, sym, ◌∙◌}
 use Rattle.std.specs.Prelude.{Some, option_map, option_and_then, nat_le, max, codes, cond}
 use Rattle.std.specs.List.{AllByRecursion}
@@ -19,14 +19,14 @@ use Rattle.term_text.specs.TermText.{name_text, argument_text, applied_text, ter
 use Rattle.term_text.specs.TermText.{probe_text}
 use Rattle.program_listing.specs.declared.listing.Name.{Name}
 use Rattle.program_tree.specs.Writable.{term_is_writable, probe_is_writable}
-use Rattle.program_listing.specs.Listing.{PhraseTree, bare, applied, PhraseTrees, no_phrases, more_phrases, count_of_phrases, name_bytes}
-use Rattle.program_listing.specs.Listing.{bracketed_phrase, phrase_brackets}
-use Rattle.program_listing.specs.Listing.{phrases_brackets}
-use Rattle.program_listing.specs.internal.NamesStand.{is_phrase, phrase_stands}
+use Rattle.program_listing.specs.Listing.{SurfaceTermTree, bare, applied, SurfaceTermTrees, no_surfaces, more_surfaces, count_of_surfaces, name_bytes}
+use Rattle.program_listing.specs.Listing.{bracketed_surface, surface_brackets}
+use Rattle.program_listing.specs.Listing.{surfaces_brackets}
+use Rattle.program_listing.specs.internal.NamesStand.{is_surface, surface_stands}
 use Rattle.flow_program.specs.Uses.{read_use, tested_use, applied_use, term_uses, terms_uses, test_uses, question_entry}
 use Rattle.flow_program.specs.internal.Numbering.{numbered_term, numbered_terms, numbered_test, probe_with}
 use Rattle.std.proofs.lemmas.List.{append-nil}
-use Rattle.program_listing.specs.LineText.{word, argument_pieces, applied_pieces, phrase_pieces, phrases_pieces}
+use Rattle.program_listing.specs.LineText.{word, argument_pieces, applied_pieces, surface_pieces, surfaces_pieces}
 use Rattle.program_listing.proofs.ListingFacts.{pieces_text}
 use Rattle.flow_program.proofs.KnownUses.{Known, KnownUse}
 use Rattle.flow_program.proofs.SpelledLines.{pieces_append}
@@ -46,37 +46,37 @@ text_is names u k = ap (λ found. option_map_or (λ n. n.text) found []) k.there
 
 module _ (names : List NameEntry) (readable : List ℕ) (text : List ℕ) where
   -- a term that has its numbers, fits, and is written and nests as before
-  pub record ResolvedTerm (p : PhraseTree) : Type 0 where
+  pub record ResolvedTerm (p : SurfaceTermTree) : Type 0 where
     pub tree : TermTree
     pub numbered_is : numbered_term names text p ≡ Some tree
     pub fits : term_fits names tree ≡ true
-    pub spelled : pieces_text text (phrase_pieces p) ≡ term_text names tree
-    pub deep : brackets tree ≡ phrase_brackets p
+    pub spelled : pieces_text text (surface_pieces p) ≡ term_text names tree
+    pub deep : brackets tree ≡ surface_brackets p
     pub reads : reads_only readable tree ≡ true
-    pub shape : (d : ℕ) → bracketed tree d ≡ bracketed_phrase p d
-    pub argument : pieces_text text (argument_pieces p (phrase_pieces p)) ≡ argument_text tree (term_text names tree)
+    pub shape : (d : ℕ) → bracketed tree d ≡ bracketed_surface p d
+    pub argument : pieces_text text (argument_pieces p (surface_pieces p)) ≡ argument_text tree (term_text names tree)
 
-  pub record ResolvedTerms (ps : PhraseTrees) : Type 0 where
+  pub record ResolvedTerms (ps : SurfaceTermTrees) : Type 0 where
     pub trees : TermTrees
     pub numbered_are : numbered_terms names text ps ≡ Some trees
     pub fit : terms_fit names trees ≡ true
-    pub spelled : pieces_text text (phrases_pieces ps) ≡ arguments_text names trees
-    pub deep : brackets_of_arguments trees ≡ phrases_brackets ps
+    pub spelled : pieces_text text (surfaces_pieces ps) ≡ arguments_text names trees
+    pub deep : brackets_of_arguments trees ≡ surfaces_brackets ps
     pub reads : read_only readable trees ≡ true
-    pub count : count_of_terms trees ≡ count_of_phrases ps
-    pub applied_as : pieces_text text (applied_pieces ps (phrases_pieces ps)) ≡ applied_text trees (arguments_text names trees)
-    pub shape : (f : ℕ) (at : Name) (d : ℕ) → bracketed (apply f trees) d ≡ bracketed_phrase (applied at ps) d
-    pub argument : (f : ℕ) (at : Name) (bytes : List ℕ) → pieces_text text (phrase_pieces (applied at ps)) ≡ bytes →
-        pieces_text text (argument_pieces (applied at ps) (phrase_pieces (applied at ps))) ≡ argument_text (apply f trees) bytes
+    pub count : count_of_terms trees ≡ count_of_surfaces ps
+    pub applied_as : pieces_text text (applied_pieces ps (surfaces_pieces ps)) ≡ applied_text trees (arguments_text names trees)
+    pub shape : (f : ℕ) (at : Name) (d : ℕ) → bracketed (apply f trees) d ≡ bracketed_surface (applied at ps) d
+    pub argument : (f : ℕ) (at : Name) (bytes : List ℕ) → pieces_text text (surface_pieces (applied at ps)) ≡ bytes →
+        pieces_text text (argument_pieces (applied at ps) (surface_pieces (applied at ps))) ≡ argument_text (apply f trees) bytes
 
   -- the text of a name with arguments
-  with_arguments : (ps : PhraseTrees) (g : ResolvedTerms ps) (id : ℕ) (at : Name) → name_text names id ≡ name_bytes text at →
-      pieces_text text (phrase_pieces (applied at ps)) ≡ name_text names id ++ applied_text g.trees (arguments_text names g.trees)
+  with_arguments : (ps : SurfaceTermTrees) (g : ResolvedTerms ps) (id : ℕ) (at : Name) → name_text names id ≡ name_bytes text at →
+      pieces_text text (surface_pieces (applied at ps)) ≡ name_text names id ++ applied_text g.trees (arguments_text names g.trees)
   with_arguments ps g id at is = λ i. sym is i ++ g.applied_as i
 
   module _ (line : ℕ) where
     mutual
-      pub resolved_term : (p : PhraseTree) → AllByRecursion (KnownUse names readable) (term_uses text line p) → ResolvedTerm p
+      pub resolved_term : (p : SurfaceTermTree) → AllByRecursion (KnownUse names readable) (term_uses text line p) → ResolvedTerm p
       resolved_term (bare at) k =
           let u : KnownUse names readable (read_use text line at) = k.0 in
           record {
@@ -93,8 +93,8 @@ module _ (names : List NameEntry) (readable : List ℕ) (text : List ℕ) where
           }
       resolved_term (applied at ps) k =
           let g : ResolvedTerms ps = resolved_terms ps k.1 in
-          let u : KnownUse names readable (applied_use text line Function at (count_of_phrases ps)) = k.0 in
-          let name : NameEntry = (applied_use text line Function at (count_of_phrases ps)).name in
+          let u : KnownUse names readable (applied_use text line Function at (count_of_surfaces ps)) = k.0 in
+          let name : NameEntry = (applied_use text line Function at (count_of_surfaces ps)).name in
           record {
             tree = apply u.name.number g.trees;
             numbered_is = ap (option_and_then (λ number. option_map (apply number) (numbered_terms names text ps))) u.name.numbered
@@ -113,8 +113,8 @@ module _ (names : List NameEntry) (readable : List ℕ) (text : List ℕ) where
                 (with_arguments ps g u.name.number at (text_is names name u.name));
           }
 
-      pub resolved_terms : (ps : PhraseTrees) → AllByRecursion (KnownUse names readable) (terms_uses text line ps) → ResolvedTerms ps
-      resolved_terms no_phrases k = record {
+      pub resolved_terms : (ps : SurfaceTermTrees) → AllByRecursion (KnownUse names readable) (terms_uses text line ps) → ResolvedTerms ps
+      resolved_terms no_surfaces k = record {
         trees = no_terms;
         numbered_are = refl;
         fit = refl;
@@ -126,13 +126,13 @@ module _ (names : List NameEntry) (readable : List ℕ) (text : List ℕ) where
         shape = λ f at d. refl;
         argument = λ f at bytes h. h;
       }
-      resolved_terms (more_phrases p ps) k =
+      resolved_terms (more_surfaces p ps) k =
           let head : ResolvedTerm p = resolved_term p (each_left (KnownUse names readable) (term_uses text line p) (terms_uses text line ps)
           k) in
           let rest : ResolvedTerms ps = resolved_terms ps (each_right (KnownUse names readable) (term_uses text line p)
           (terms_uses text line ps) k) in
-          let spelled : pieces_text text (phrases_pieces (more_phrases p ps)) ≡ arguments_text names (more_terms head.tree rest.trees) =
-          ap (λ zs. codes " " ++ zs) (pieces_append text (argument_pieces p (phrase_pieces p)) (phrases_pieces ps)
+          let spelled : pieces_text text (surfaces_pieces (more_surfaces p ps)) ≡ arguments_text names (more_terms head.tree rest.trees) =
+          ap (λ zs. codes " " ++ zs) (pieces_append text (argument_pieces p (surface_pieces p)) (surfaces_pieces ps)
           ∙ (λ i. head.argument i ++ rest.spelled i)) in
           record {
             trees = more_terms head.tree rest.trees;
@@ -140,30 +140,30 @@ module _ (names : List NameEntry) (readable : List ℕ) (text : List ℕ) where
                 ∙ ap (option_map (more_terms head.tree)) rest.numbered_are;
             fit = and_from (term_fits names head.tree) (terms_fit names rest.trees) head.fits rest.fit;
             spelled = spelled;
-            deep = ap (λ d. max d (brackets_of_arguments rest.trees)) (ap (bracketed head.tree) head.deep ∙ head.shape (phrase_brackets p))
-                ∙ ap (max (bracketed_phrase p (phrase_brackets p))) rest.deep;
+            deep = ap (λ d. max d (brackets_of_arguments rest.trees)) (ap (bracketed head.tree) head.deep ∙ head.shape (surface_brackets p))
+                ∙ ap (max (bracketed_surface p (surface_brackets p))) rest.deep;
             reads = and_from (reads_only readable head.tree) (read_only readable rest.trees) head.reads rest.reads;
             count = ap (λ n. 1 + n) rest.count;
             applied_as = spelled;
             shape = λ f at d. refl;
             argument = λ f at bytes h.
-                ap (λ zs. codes "(" ++ zs) (pieces_append text (phrase_pieces (applied at (more_phrases p ps))) (word (codes ")") ∷ [])
+                ap (λ zs. codes "(" ++ zs) (pieces_append text (surface_pieces (applied at (more_surfaces p ps))) (word (codes ")") ∷ [])
                 ∙ ap (λ zs. zs ++ codes ")") h);
           }
 
-    -- so may be written what is a phrase
-    pub term_writable : (p : PhraseTree) (g : ResolvedTerm p) → is_phrase text p ≡ true → term_is_writable names g.tree ≡ true
+    -- so may be written what is a surface term
+    pub term_writable : (p : SurfaceTermTree) (g : ResolvedTerm p) → is_surface text p ≡ true → term_is_writable names g.tree ≡ true
     term_writable p g is =
         and_from (term_fits names g.tree) (nat_le (brackets g.tree) deepest) g.fits
-        (ap (λ d. nat_le d deepest) g.deep ∙ (and_parts (phrase_stands text p) (nat_le (phrase_brackets p) deepest) is).1)
+        (ap (λ d. nat_le d deepest) g.deep ∙ (and_parts (surface_stands text p) (nat_le (surface_brackets p) deepest) is).1)
 
   -- a test that has its numbers
-  pub record ResolvedTest (p : PhraseTree) : Type 0 where
+  pub record ResolvedTest (p : SurfaceTermTree) : Type 0 where
     pub tree : ProbeTree
     pub numbered_is : numbered_test names text p ≡ Some tree
     pub fits : probe_fits names tree ≡ true
-    pub spelled : pieces_text text (phrase_pieces p) ≡ probe_text names tree
-    pub deep : brackets_of_arguments tree.arguments ≡ phrase_brackets p
+    pub spelled : pieces_text text (surface_pieces p) ≡ probe_text names tree
+    pub deep : brackets_of_arguments tree.arguments ≡ surface_brackets p
     pub reads : read_only readable tree.arguments ≡ true
 
   module _ (line : ℕ) where
@@ -208,12 +208,12 @@ module _ (names : List NameEntry) (readable : List ℕ) (text : List ℕ) where
           absurd (cc)
       by false e = refl
 
-    pub resolved_test : (p : PhraseTree) → AllByRecursion (KnownUse names readable) (test_uses text line p) → ResolvedTest p
+    pub resolved_test : (p : SurfaceTermTree) → AllByRecursion (KnownUse names readable) (test_uses text line p) → ResolvedTest p
     resolved_test (bare at) k = resolved_bare at k.0
     resolved_test (applied at ps) k =
         let g : ResolvedTerms ps = resolved_terms line ps k.1 in
-        let u : KnownUse names readable (applied_use text line Predicate at (count_of_phrases ps)) = k.0 in
-        let name : NameEntry = (applied_use text line Predicate at (count_of_phrases ps)).name in
+        let u : KnownUse names readable (applied_use text line Predicate at (count_of_surfaces ps)) = k.0 in
+        let name : NameEntry = (applied_use text line Predicate at (count_of_surfaces ps)).name in
         let tree : ProbeTree = probe_with u.name.number g.trees in
         let other : is_question names u.name.number ≡ false =
         ap (λ found. option_map_or (λ n. bytes_eq n.text question) found false) u.name.there
@@ -233,7 +233,7 @@ module _ (names : List NameEntry) (readable : List ℕ) (text : List ℕ) where
           reads = g.reads;
         }
 
-    pub test_writable : (p : PhraseTree) (g : ResolvedTest p) → is_phrase text p ≡ true → probe_is_writable names g.tree ≡ true
+    pub test_writable : (p : SurfaceTermTree) (g : ResolvedTest p) → is_surface text p ≡ true → probe_is_writable names g.tree ≡ true
     test_writable p g is =
         and_from (probe_fits names g.tree) (nat_le (brackets_of_arguments g.tree.arguments) deepest) g.fits
-        (ap (λ d. nat_le d deepest) g.deep ∙ (and_parts (phrase_stands text p) (nat_le (phrase_brackets p) deepest) is).1)
+        (ap (λ d. nat_le d deepest) g.deep ∙ (and_parts (surface_stands text p) (nat_le (surface_brackets p) deepest) is).1)

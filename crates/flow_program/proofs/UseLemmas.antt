@@ -1,22 +1,22 @@
--- How many uses phrases have.
+-- How many uses surface terms have.
 use Rattle.std.proofs.Common.{◌≡◌, ℕ, zero, suc, ◌+◌, ◌<◌, ◌≤◌, List, [], ◌∷◌, ◌++◌, length, get_or, drop, map, ap, sym, ◌∙◌, arith}
 use Rattle.std.proofs.Common.{length-append}
 use Rattle.sequence.proofs.Lists.{left_at}
 use Rattle.program_listing.specs.declared.listing.Name.{Name}
-use Rattle.program_listing.specs.Listing.{PhraseTree, bare, applied, PhraseTrees, no_phrases, more_phrases, count_of_phrases, WindowLine}
+use Rattle.program_listing.specs.Listing.{SurfaceTermTree, bare, applied, SurfaceTermTrees, no_surfaces, more_surfaces, count_of_surfaces, WindowLine}
 use Rattle.program_listing.specs.Listing.{NodeLine, ListingTree, declared}
 use Rattle.flow_program.specs.Uses.{ProgramUse, signal_use, line_uses, uses_of, first_window, first_node, term_uses, terms_uses}
 use Rattle.flow_program.specs.Uses.{declared_uses, windows_uses, nodes_uses}
 
 module _ (text : List ℕ) (line : ℕ) where
-  term_is_one : (p : PhraseTree) → 1 ≤ length (term_uses text line p)
+  term_is_one : (p : SurfaceTermTree) → 1 ≤ length (term_uses text line p)
   term_is_one (bare at) = omega arith
   term_is_one (applied at ps) = omega arith
 
-  -- a list of phrases has not more members than uses
-  pub count_within : (ps : PhraseTrees) → count_of_phrases ps ≤ length (terms_uses text line ps)
-  count_within no_phrases = omega arith
-  count_within (more_phrases p ps) =
+  -- a list of surface terms has not more members than uses
+  pub count_within : (ps : SurfaceTermTrees) → count_of_surfaces ps ≤ length (terms_uses text line ps)
+  count_within no_surfaces = omega arith
+  count_within (more_surfaces p ps) =
       omega (arith, term_is_one p, count_within ps, length-append (term_uses text line p) (terms_uses text line ps))
 
 -- the uses of lines that are numbered

@@ -13,12 +13,12 @@ use Rattle.sequence.proofs.Passes.{list_all_parts, list_all_from_each}
 use Rattle.tsl_text.specs.Names.{is_usable, is_name_text, is_reserved}
 use Rattle.tsl_terms.specs.declared.names.NameKind.TheVariants.{Function, Predicate}
 use Rattle.program_listing.specs.declared.listing.Name.{Name}
-use Rattle.program_listing.specs.LineText.{Piece, word, named, argument_pieces, phrase_pieces, phrases_pieces, LineTree, input, cell}
+use Rattle.program_listing.specs.LineText.{Piece, word, named, argument_pieces, surface_pieces, surfaces_pieces, LineTree, input, cell}
 use Rattle.program_listing.specs.LineText.{output}
 use Rattle.program_listing.specs.LineText.{window, node, update_pieces, set_pieces, listed_pieces, placed_pieces, equated_pieces}
 use Rattle.program_listing.specs.LineText.{left_pieces, window_pieces}
 use Rattle.program_listing.specs.LineText.{line_pieces, ended_pieces, node_lines, state_lines, listing_lines}
-use Rattle.program_listing.specs.Listing.{PhraseTree, bare, applied, PhraseTrees, no_phrases, more_phrases, count_of_phrases, UpdateLine}
+use Rattle.program_listing.specs.Listing.{SurfaceTermTree, bare, applied, SurfaceTermTrees, no_surfaces, more_surfaces, count_of_surfaces, UpdateLine}
 use Rattle.program_listing.specs.Listing.{ListedLine, PlacedLine, WindowLine, NodeLine, branch_line, assignment_line, ListingTree}
 use Rattle.program_listing.specs.Listing.{name_bytes}
 use Rattle.program_listing.specs.Listing.{IsListing}
@@ -96,36 +96,36 @@ module _ (text : List ℕ) where
   module _ (line : ℕ) where
     -- ---- terms and tests
 
-    argument_use : (p : PhraseTree) → PiecesUse (term_uses text line p) (phrase_pieces p) 0 1 →
-        PiecesUse (term_uses text line p) (argument_pieces p (phrase_pieces p)) 0 1
+    argument_use : (p : SurfaceTermTree) → PiecesUse (term_uses text line p) (surface_pieces p) 0 1 →
+        PiecesUse (term_uses text line p) (argument_pieces p (surface_pieces p)) 0 1
     argument_use (bare at) r = r
-    argument_use (applied at no_phrases) r = r
-    argument_use (applied at (more_phrases p ps)) r =
+    argument_use (applied at no_surfaces) r = r
+    argument_use (applied at (more_surfaces p ps)) r =
         weaker 0 1 (after_word (codes "(") (closed r (after_word (codes ")") no_piece))) (omega arith)
 
     mutual
-      term_use : (p : PhraseTree) → PiecesUse (term_uses text line p) (phrase_pieces p) 0 1
+      term_use : (p : SurfaceTermTree) → PiecesUse (term_uses text line p) (surface_pieces p) 0 1
       term_use (bare at) = after_name (read_use text line at) refl no_piece
-      term_use (applied at no_phrases) =
+      term_use (applied at no_surfaces) =
           weaker 0 1 (after_name (applied_use text line Function at 0) refl (after_word (codes "()") no_piece)) (omega arith)
-      term_use (applied at (more_phrases p ps)) =
-          after_name (applied_use text line Function at (count_of_phrases (more_phrases p ps))) refl (terms_use (more_phrases p ps))
+      term_use (applied at (more_surfaces p ps)) =
+          after_name (applied_use text line Function at (count_of_surfaces (more_surfaces p ps))) refl (terms_use (more_surfaces p ps))
 
-      terms_use : (ps : PhraseTrees) → PiecesUse (terms_uses text line ps) (phrases_pieces ps) 0 0
-      terms_use no_phrases = no_piece
-      terms_use (more_phrases p ps) =
+      terms_use : (ps : SurfaceTermTrees) → PiecesUse (terms_uses text line ps) (surfaces_pieces ps) 0 0
+      terms_use no_surfaces = no_piece
+      terms_use (more_surfaces p ps) =
           weaker 0 0 (after_word (codes " ") (joined (argument_use p (term_use p)) (terms_use ps))) (omega arith)
 
-    test_use : (p : PhraseTree) → PiecesUse (test_uses text line p) (phrase_pieces p) 0 1
+    test_use : (p : SurfaceTermTree) → PiecesUse (test_uses text line p) (surface_pieces p) 0 1
     test_use (bare at) = after_name (tested_use text line at) refl no_piece
-    test_use (applied at no_phrases) =
+    test_use (applied at no_surfaces) =
         weaker 0 1 (after_name (applied_use text line Predicate at 0) refl (after_word (codes "()") no_piece)) (omega arith)
-    test_use (applied at (more_phrases p ps)) =
-        after_name (applied_use text line Predicate at (count_of_phrases (more_phrases p ps))) refl (terms_use (more_phrases p ps))
+    test_use (applied at (more_surfaces p ps)) =
+        after_name (applied_use text line Predicate at (count_of_surfaces (more_surfaces p ps))) refl (terms_use (more_surfaces p ps))
 
     -- ---- lines
 
-    update_use : (s : Name) (t : PhraseTree) → PiecesUse (signal_use text line s ∷ term_uses text line t) (update_pieces s t) 0 0
+    update_use : (s : Name) (t : SurfaceTermTree) → PiecesUse (signal_use text line s ∷ term_uses text line t) (update_pieces s t) 0 0
     update_use s t =
         weaker 0 0 (after_word (codes "[") (after_name (signal_use text line s) refl (after_word (codes " <- ")
         (closed (term_use t) (after_word (codes "]") no_piece))))) (omega arith)
@@ -207,8 +207,8 @@ module _ (text : List ℕ) where
   lines_joined xs ys {us = us} {vs = vs} {more = more} {more' = more'} r s =
       subst (λ ps. PiecesUse (us ++ vs) ps (more + more') 0) (sym (flat_map-append ended_pieces xs ys)) (joined r s)
 
-  five : (a b c d e : List ProgramUse) → a ++ (b ++ (c ++ (d ++ (e ++ [])))) ≡ (((a ++ b) ++ c) ++ d) ++ e
-  five a b c d e = simp (append_assoc, append-nil)
+  regroup_5 : (a b c d e : List ProgramUse) → a ++ (b ++ (c ++ (d ++ (e ++ [])))) ≡ (((a ++ b) ++ c) ++ d) ++ e
+  regroup_5 a b c d e = simp (append_assoc, append-nil)
 
   whole : (l : ListingTree) →
       PiecesUse (uses_of text l) (flat_map ended_pieces (listing_lines l)) (first_state l + length l.states) 0
@@ -220,7 +220,7 @@ module _ (text : List ℕ) where
       let w = windows_uses text (first_window l) l.windows in
       let n = nodes_uses text (first_node l) l.nodes in
       let uses_are : a ++ (b ++ (c ++ (w ++ (n ++ [])))) ≡ uses_of text l =
-      five a b c w n ∙ ap (λ us. (us ++ w) ++ n) (ap (λ us. us ++ c) (sym (declared_append text line l.inputs l.cells))
+      regroup_5 a b c w n ∙ ap (λ us. (us ++ w) ++ n) (ap (λ us. us ++ c) (sym (declared_append text line l.inputs l.cells))
       ∙ sym (declared_append text line (l.inputs ++ l.cells) l.outputs)) in
       subst (λ us. PiecesUse us (flat_map ended_pieces (listing_lines l)) (first_state l + length l.states) 0) uses_are
       (weaker (first_state l + length l.states) 0 (after_word (codes "tslprogram 1") (after_word (codes "\n")

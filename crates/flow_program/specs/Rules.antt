@@ -12,7 +12,7 @@ use Rattle.flow_program.specs.declared.reading.ProgramError.TheVariants.{Order, 
 use Rattle.flow_program.specs.declared.reading.ProgramError.TheVariants.{Nodes, States}
 use Rattle.program_tree.specs.Fits.{longest}
 use Rattle.program_tree.specs.Writable.{most_windows, most_nodes, most_states}
-use Rattle.program_listing.specs.Listing.{PhraseTree, bare, applied, PhraseTrees, no_phrases, more_phrases, count_of_phrases}
+use Rattle.program_listing.specs.Listing.{SurfaceTermTree, bare, applied, SurfaceTermTrees, no_surfaces, more_surfaces, count_of_surfaces}
 use Rattle.program_listing.specs.Listing.{ListedLine, PlacedLine, WindowLine, NodeLine, branch_line, assignment_line, ListingTree}
 use Rattle.program_listing.specs.Listing.{name_bytes, left_step}
 use Rattle.flow_program.specs.Uses.{ProgramUse, first_window, first_node, first_state, uses_of, names_after}
@@ -64,22 +64,22 @@ places_rise _ _ = false
 module _ (text : List ℕ) where
   -- whether two terms or tests are spelled alike
   abbrev mutual
-    pub same_phrase : PhraseTree → PhraseTree → Bool
-    same_phrase (bare m) (bare n) = bytes_eq (name_bytes text m) (name_bytes text n)
-    same_phrase (applied m ps) (applied n qs) = bytes_eq (name_bytes text m) (name_bytes text n) && same_phrases ps qs
-    same_phrase (bare m) (applied n qs) = false
-    same_phrase (applied m ps) (bare n) = false
+    pub same_surface : SurfaceTermTree → SurfaceTermTree → Bool
+    same_surface (bare m) (bare n) = bytes_eq (name_bytes text m) (name_bytes text n)
+    same_surface (applied m ps) (applied n qs) = bytes_eq (name_bytes text m) (name_bytes text n) && same_surfaces ps qs
+    same_surface (bare m) (applied n qs) = false
+    same_surface (applied m ps) (bare n) = false
 
-    pub same_phrases : PhraseTrees → PhraseTrees → Bool
-    same_phrases no_phrases no_phrases = true
-    same_phrases (more_phrases p ps) (more_phrases q qs) = same_phrase p q && same_phrases ps qs
-    same_phrases no_phrases (more_phrases q qs) = false
-    same_phrases (more_phrases p ps) no_phrases = false
+    pub same_surfaces : SurfaceTermTrees → SurfaceTermTrees → Bool
+    same_surfaces no_surfaces no_surfaces = true
+    same_surfaces (more_surfaces p ps) (more_surfaces q qs) = same_surface p q && same_surfaces ps qs
+    same_surfaces no_surfaces (more_surfaces q qs) = false
+    same_surfaces (more_surfaces p ps) no_surfaces = false
 
   -- a test is `eq` with two arguments
-  abbrev pub is_equality_test : PhraseTree → Bool
+  abbrev pub is_equality_test : SurfaceTermTree → Bool
   is_equality_test (bare at) = false
-  is_equality_test (applied at ps) = bytes_eq (name_bytes text at) (codes "eq") && (count_of_phrases ps == 2)
+  is_equality_test (applied at ps) = bytes_eq (name_bytes text at) (codes "eq") && (count_of_surfaces ps == 2)
 
   -- an equality stands at a step up to the length
   abbrev pub is_equality_within : ℕ → PlacedLine → Bool
@@ -87,7 +87,7 @@ module _ (text : List ℕ) where
 
   -- an equality may stand behind another one: its step is larger, or the same one and it is spelled otherwise
   abbrev pub may_follow : PlacedLine → PlacedLine → Bool
-  may_follow d e = nat_lt d.step e.step || ((d.step == e.step) && not (same_phrase d.test e.test))
+  may_follow d e = nat_lt d.step e.step || ((d.step == e.step) && not (same_surface d.test e.test))
 
   -- the steps of equalities do not fall, and none stands twice at one step
   abbrev pub are_in_order : List PlacedLine → Bool

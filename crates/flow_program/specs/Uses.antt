@@ -5,7 +5,7 @@ use Rattle.tsl_terms.specs.declared.names.NameKind.TheVariants.{Signal, Function
 use Rattle.tsl_terms.specs.Name.{question, Name as NameEntry}
 use Rattle.tsl_terms.specs.Clashes.{with_uses}
 use Rattle.program_listing.specs.declared.listing.Name.{Name}
-use Rattle.program_listing.specs.Listing.{PhraseTree, bare, applied, PhraseTrees, no_phrases, more_phrases, count_of_phrases, name_bytes}
+use Rattle.program_listing.specs.Listing.{SurfaceTermTree, bare, applied, SurfaceTermTrees, no_surfaces, more_surfaces, count_of_surfaces, name_bytes}
 use Rattle.program_listing.specs.Listing.{UpdateLine, ListedLine, PlacedLine, WindowLine, NodeLine, branch_line, assignment_line}
 use Rattle.program_listing.specs.Listing.{ListingTree, declared}
 
@@ -44,17 +44,17 @@ module _ (text : List ℕ) (line : ℕ) where
   -- the uses of a term, a test, an update, the line of a window and the line of a node
 
   abbrev mutual
-    pub term_uses : PhraseTree → List ProgramUse
+    pub term_uses : SurfaceTermTree → List ProgramUse
     term_uses (bare at) = read_use at ∷ []
-    term_uses (applied at arguments) = applied_use Function at (count_of_phrases arguments) ∷ terms_uses arguments
+    term_uses (applied at arguments) = applied_use Function at (count_of_surfaces arguments) ∷ terms_uses arguments
 
-    pub terms_uses : PhraseTrees → List ProgramUse
-    terms_uses no_phrases = []
-    terms_uses (more_phrases p ps) = term_uses p ++ terms_uses ps
+    pub terms_uses : SurfaceTermTrees → List ProgramUse
+    terms_uses no_surfaces = []
+    terms_uses (more_surfaces p ps) = term_uses p ++ terms_uses ps
 
-  abbrev pub test_uses : PhraseTree → List ProgramUse
+  abbrev pub test_uses : SurfaceTermTree → List ProgramUse
   test_uses (bare at) = tested_use at ∷ []
-  test_uses (applied at arguments) = applied_use Predicate at (count_of_phrases arguments) ∷ terms_uses arguments
+  test_uses (applied at arguments) = applied_use Predicate at (count_of_surfaces arguments) ∷ terms_uses arguments
 
   abbrev pub update_uses : UpdateLine → List ProgramUse
   update_uses u = signal_use u.signal ∷ term_uses u.term

@@ -2,17 +2,17 @@
 
 ghost use Rattle.std.specs.Prelude.{◌≡◌, ◌==◌, ◌&&◌, ◌++◌, map, IsTrue, IfOk, OnOk};
 ghost use Rattle.std.specs.List.{list_all};
-ghost use Rattle.program_listing.specs.Listing.{count_of_phrases};
-ghost use Rattle.program_listing.specs.Listing.{phrase_tree, phrase_trees, placed_line, window_line};
-ghost use Rattle.program_listing.specs.internal.NamesStand.{name_stands, phrase_stands, phrases_stand, placed_line_stands};
+ghost use Rattle.program_listing.specs.Listing.{count_of_surfaces};
+ghost use Rattle.program_listing.specs.Listing.{surface_tree, surface_trees, placed_line, window_line};
+ghost use Rattle.program_listing.specs.internal.NamesStand.{name_stands, surface_stands, surfaces_stand, placed_line_stands};
 ghost use Rattle.program_listing.specs.internal.NamesStand.{window_line_stands};
 ghost use Rattle.flow_program.specs.Rules.{is_equality_test, is_equality_within, are_in_order};
 ghost use Rattle.flow_program.specs.Rules.{right_fits};
-ghost use Rattle.flow_program.specs.internal.EqualityKeys.{name_key, phrase_key, phrases_key, placed_key};
+ghost use Rattle.flow_program.specs.internal.EqualityKeys.{name_key, surface_key, surfaces_key, placed_key};
 ghost use Rattle.flow_program.specs.internal.EqualityKeys.{is_pairwise, does_not_fall, are_apart};
 
 use crate::uses::name_bytes;
-use program_listing::{Name, Phrase, PhraseList, SpelledPlaced, SpelledWindow};
+use program_listing::{Name, SpelledPlaced, SpelledWindow, SurfaceTerm, SurfaceTermList};
 use sequence::NoMemory;
 use std::alloc::Global;
 use std::collections::BTreeSet;
@@ -31,63 +31,63 @@ fn put_name(key: &mut Vec<u64>, text: &[u8], name: Name) -> Result<(), NoMemory>
 }
 
 /// Puts a term or a test at the end of a key, where it is told from each that is spelled otherwise.
-#[cycle(put_phrases)]
-fn put_phrase(key: &mut Vec<u64>, text: &[u8], phrase: &Phrase) -> Result<(), NoMemory>
-    requires { IsTrue (phrase_stands text.now (phrase_tree phrase.now)) }
+#[cycle(put_surfaces)]
+fn put_surface(key: &mut Vec<u64>, text: &[u8], surface: &SurfaceTerm) -> Result<(), NoMemory>
+    requires { IsTrue (surface_stands text.now (surface_tree surface.now)) }
     ensures { OnOk result
-        (key.new.items ≡ key.old.items ++ phrase_key text.now (phrase_tree phrase.now)) }
+        (key.new.items ≡ key.old.items ++ surface_key text.now (surface_tree surface.now)) }
 {
-    match phrase {
-        Phrase::Bare(name) => {
+    match surface {
+        SurfaceTerm::Bare(name) => {
             key.push(0)?;
             put_name(key, text, *name)
         }
-        Phrase::Applied(name, arguments) => {
+        SurfaceTerm::Applied(name, arguments) => {
             key.push(1)?;
             put_name(key, text, *name)?;
-            put_phrases(key, text, arguments)
+            put_surfaces(key, text, arguments)
         }
     }
 }
 
 /// Puts the members of a list at the end of a key: a 1 before each, and a 0 after the last.
-#[cycle(put_phrases)]
-fn put_phrases(key: &mut Vec<u64>, text: &[u8], phrases: &PhraseList) -> Result<(), NoMemory>
-    requires { IsTrue (phrases_stand text.now (phrase_trees phrases.now)) }
+#[cycle(put_surfaces)]
+fn put_surfaces(key: &mut Vec<u64>, text: &[u8], surfaces: &SurfaceTermList) -> Result<(), NoMemory>
+    requires { IsTrue (surfaces_stand text.now (surface_trees surfaces.now)) }
     ensures { OnOk result
-        (key.new.items ≡ key.old.items ++ phrases_key text.now (phrase_trees phrases.now)) }
+        (key.new.items ≡ key.old.items ++ surfaces_key text.now (surface_trees surfaces.now)) }
 {
-    let mut left = phrases;
-    while let PhraseList::More(phrase, rest) = left {
+    let mut left = surfaces;
+    while let SurfaceTermList::More(surface, rest) = left {
         key.push(1)?;
-        put_phrase(key, text, phrase)?;
+        put_surface(key, text, surface)?;
         left = rest;
     }
     key.push(0)?;
     Ok(())
 }
 
-/// Whether there are two phrases.
-fn are_two(phrases: &PhraseList) -> bool
-    ensures { result ≡ (count_of_phrases (phrase_trees phrases.now) == 2) }
+/// Whether there are two surface terms.
+fn are_two(surfaces: &SurfaceTermList) -> bool
+    ensures { result ≡ (count_of_surfaces (surface_trees surfaces.now) == 2) }
 {
-    match phrases {
-        PhraseList::Empty => false,
-        PhraseList::More(_, rest) => match rest.as_ref() {
-            PhraseList::Empty => false,
-            PhraseList::More(_, last) => matches!(last.as_ref(), PhraseList::Empty),
+    match surfaces {
+        SurfaceTermList::Empty => false,
+        SurfaceTermList::More(_, rest) => match rest.as_ref() {
+            SurfaceTermList::Empty => false,
+            SurfaceTermList::More(_, last) => matches!(last.as_ref(), SurfaceTermList::Empty),
         },
     }
 }
 
 /// Whether a test is `eq` with two arguments.
-fn is_equality_test(text: &[u8], test: &Phrase) -> bool
-    requires { IsTrue (phrase_stands text.now (phrase_tree test.now)) }
-    ensures { result ≡ is_equality_test text.now (phrase_tree test.now) }
+fn is_equality_test(text: &[u8], test: &SurfaceTerm) -> bool
+    requires { IsTrue (surface_stands text.now (surface_tree test.now)) }
+    ensures { result ≡ is_equality_test text.now (surface_tree test.now) }
 {
     match test {
-        Phrase::Bare(_) => false,
-        Phrase::Applied(name, arguments) => {
+        SurfaceTerm::Bare(_) => false,
+        SurfaceTerm::Applied(name, arguments) => {
             name_bytes(text, *name) == b"eq".as_slice() && are_two(arguments)
         }
     }
@@ -148,7 +148,7 @@ fn key_of(alloc: Global, text: &[u8], equality: &SpelledPlaced) -> Result<Vec<u6
 {
     let mut key = Vec::new(alloc);
     key.push(equality.step)?;
-    put_phrase(&mut key, text, &equality.test)?;
+    put_surface(&mut key, text, &equality.test)?;
     Ok(key)
 }
 

@@ -12,9 +12,9 @@ ghost use Rattle.program_listing.specs.ListingTree.{UpdateLine, ListedLine, Plac
 ghost use Rattle.program_tree.specs.ProgramView.{program_tree};
 ghost use Rattle.program_tree.specs.ProgramTree.{ProgramTree};
 ghost use Rattle.flow_program.specs.ProgramText.{ProgramText};
-ghost use Rattle.program_listing.specs.internal.NamesStand.{name_stands, phrase_stands, phrases_stand, update_line_stands, listed_line_stands};
+ghost use Rattle.program_listing.specs.internal.NamesStand.{name_stands, surface_stands, surfaces_stand, update_line_stands, listed_line_stands};
 ghost use Rattle.program_listing.specs.internal.NamesStand.{ListingStands};
-ghost use Rattle.program_listing.specs.Listing.{phrase_tree, phrase_trees, update_line, listed_line, placed_line};
+ghost use Rattle.program_listing.specs.Listing.{surface_tree, surface_trees, update_line, listed_line, placed_line};
 ghost use Rattle.program_listing.specs.internal.NamesStand.{placed_line_stands, left_line_stands, window_line_stands, node_line_stands};
 ghost use Rattle.program_listing.specs.Listing.{window_line, node_line, listing_tree};
 ghost use Rattle.flow_program.specs.internal.Numbering.{small, numbered, numbered_term, numbered_terms, numbered_test, numbered_listed};
@@ -22,8 +22,8 @@ ghost use Rattle.flow_program.specs.internal.Numbering.{numbered_equated, number
 
 use crate::uses::name_bytes;
 use program_listing::{
-    Listing, Name, Phrase, PhraseList, SpelledListed, SpelledNode, SpelledPlaced, SpelledUpdate,
-    SpelledWindow,
+    Name, ProgramSyntax, SpelledListed, SpelledNode, SpelledPlaced, SpelledUpdate, SpelledWindow,
+    SurfaceTerm, SurfaceTermList,
 };
 use program_tree::{Node, Program};
 use sequence::{NoMemory, Sequence};
@@ -57,15 +57,20 @@ fn numbered(names: &Names, text: &[u8], name: Name) -> u32
 
 /// A term with numbers. An `Err` says that memory ran out.
 #[cycle(number_terms)]
-fn numbered_term(alloc: Global, names: &Names, text: &[u8], term: &Phrase) -> Result<Term, NoMemory>
-    requires stands { IsTrue (phrase_stands text.now (phrase_tree term.now)) }
-    requires known { IsTrue (is_some (numbered_term names.now text.now (phrase_tree term.now))) }
+fn numbered_term(
+    alloc: Global,
+    names: &Names,
+    text: &[u8],
+    term: &SurfaceTerm,
+) -> Result<Term, NoMemory>
+    requires stands { IsTrue (surface_stands text.now (surface_tree term.now)) }
+    requires known { IsTrue (is_some (numbered_term names.now text.now (surface_tree term.now))) }
     ensures { IfOk result (λ tree.
-        numbered_term names.now text.now (phrase_tree term.now) ≡ Some (term_tree tree)) }
+        numbered_term names.now text.now (surface_tree term.now) ≡ Some (term_tree tree)) }
 {
     match term {
-        Phrase::Bare(name) => Ok(Term::Signal(numbered(names, text, *name))),
-        Phrase::Applied(name, arguments) => {
+        SurfaceTerm::Bare(name) => Ok(Term::Signal(numbered(names, text, *name))),
+        SurfaceTerm::Applied(name, arguments) => {
             let number = numbered(names, text, *name);
             let arguments = numbered_terms(alloc, names, text, arguments)?;
             Ok(Term::Apply(number, arguments))
@@ -79,16 +84,16 @@ fn numbered_terms(
     alloc: Global,
     names: &Names,
     text: &[u8],
-    terms: &PhraseList,
+    terms: &SurfaceTermList,
 ) -> Result<TermList, NoMemory>
-    requires stands { IsTrue (phrases_stand text.now (phrase_trees terms.now)) }
-    requires known { IsTrue (is_some (numbered_terms names.now text.now (phrase_trees terms.now))) }
+    requires stands { IsTrue (surfaces_stand text.now (surface_trees terms.now)) }
+    requires known { IsTrue (is_some (numbered_terms names.now text.now (surface_trees terms.now))) }
     ensures { IfOk result (λ trees.
-        numbered_terms names.now text.now (phrase_trees terms.now) ≡ Some (term_trees trees)) }
+        numbered_terms names.now text.now (surface_trees terms.now) ≡ Some (term_trees trees)) }
 {
     let mut trees = Vec::new(alloc);
     let mut rest = terms;
-    while let PhraseList::More(term, next) = rest {
+    while let SurfaceTermList::More(term, next) = rest {
         let tree = numbered_term(alloc, names, text, term)?;
         trees.push(tree)?;
         rest = next;
@@ -101,15 +106,15 @@ fn numbered_test(
     alloc: Global,
     names: &Names,
     text: &[u8],
-    test: &Phrase,
+    test: &SurfaceTerm,
 ) -> Result<Probe, NoMemory>
-    requires stands { IsTrue (phrase_stands text.now (phrase_tree test.now)) }
-    requires known { IsTrue (is_some (numbered_test names.now text.now (phrase_tree test.now))) }
+    requires stands { IsTrue (surface_stands text.now (surface_tree test.now)) }
+    requires known { IsTrue (is_some (numbered_test names.now text.now (surface_tree test.now))) }
     ensures { IfOk result (λ tree.
-        numbered_test names.now text.now (phrase_tree test.now) ≡ Some (probe_tree tree)) }
+        numbered_test names.now text.now (surface_tree test.now) ≡ Some (probe_tree tree)) }
 {
     match test {
-        Phrase::Bare(name) => {
+        SurfaceTerm::Bare(name) => {
             let signal = Term::Signal(numbered(names, text, *name));
             let none = Box::new(alloc, TermList::Empty)?;
             Ok(Probe {
@@ -117,7 +122,7 @@ fn numbered_test(
                 arguments: TermList::More(Box::new(alloc, signal)?, none),
             })
         }
-        Phrase::Applied(name, arguments) => {
+        SurfaceTerm::Applied(name, arguments) => {
             let predicate = numbered(names, text, *name);
             let arguments = numbered_terms(alloc, names, text, arguments)?;
             Ok(Probe {
@@ -381,7 +386,7 @@ pub(crate) fn numbered_program(
     alloc: Global,
     names: &Names,
     text: &[u8],
-    listing: &Listing,
+    listing: &ProgramSyntax,
 ) -> Result<Program, NoMemory>
     requires stands { ListingStands text.now (listing_tree listing.now) }
     requires program { (p : ProgramTree) × Numbered names.now text.now (listing_tree listing.now) p

@@ -15,7 +15,7 @@ use crate::naming::names_after;
 use crate::numbering::numbered_program;
 use crate::rules::{declared_names, limit_fault, line_fault, use_fault};
 use crate::uses::all_uses;
-use program_listing::{Listing, ListingError, Name, read_listing};
+use program_listing::{ListingError, Name, ProgramSyntax, read_listing};
 use program_tree::Program;
 use sequence::NoMemory;
 use std::alloc::{AllocFailed, Global};
@@ -112,7 +112,11 @@ fn joined(alloc: Global, left: &[Name], right: &[Name]) -> Result<Vec<Name>, NoM
 }
 
 /// The names of the signals that lines declare. An `Err` says that memory ran out.
-fn declared_signals(alloc: Global, text: &[u8], listing: &Listing) -> Result<Signals, NoMemory>
+fn declared_signals(
+    alloc: Global,
+    text: &[u8],
+    listing: &ProgramSyntax,
+) -> Result<Signals, NoMemory>
     requires stands { ListingStands text.now (listing_tree listing.now) }
     requires listing { IsListing text.now (listing_tree listing.now) }
     requires lines { first_state (listing_tree listing.now)
@@ -148,7 +152,7 @@ fn program_of(
     alloc: Global,
     text: &[u8],
     names: Names,
-    listing: &Listing,
+    listing: &ProgramSyntax,
 ) -> Result<(Program, Names), ProgramError>
     requires room { length text.now + length names < 2 ^ 32 }
     requires names { IsTrue (list_all name_fits names) }

@@ -19,14 +19,16 @@ ghost use Rattle.flow_program.specs.internal.UseView.{use_view};
 use crate::equalities::{are_equalities, right_fits};
 use crate::reading::ProgramError;
 use crate::uses::{SpelledUse, name_bytes};
-use program_listing::{Listing, Name, SpelledListed, SpelledNode, SpelledUpdate, SpelledWindow};
+use program_listing::{
+    Name, ProgramSyntax, SpelledListed, SpelledNode, SpelledUpdate, SpelledWindow,
+};
 use program_tree::{LONGEST_WINDOW, MOST_NODES, MOST_STATES, MOST_WINDOWS};
 use sequence::NoMemory;
 use std::alloc::Global;
 use tsl_terms::{NameKind, Names, Quality};
 
 /// The number of the first line of a node.
-pub(crate) fn first_node(listing: &Listing) -> u32
+pub(crate) fn first_node(listing: &ProgramSyntax) -> u32
     requires { first_state (listing_tree listing.now) + length listing.now.states.items < 2 ^ 32 }
     ensures { result ≡ first_node (listing_tree listing.now) }
 {
@@ -34,7 +36,7 @@ pub(crate) fn first_node(listing: &Listing) -> u32
 }
 
 /// The number of the first line of a window: the head is line 1.
-pub(crate) fn first_window(listing: &Listing) -> u32
+pub(crate) fn first_window(listing: &ProgramSyntax) -> u32
     requires { first_state (listing_tree listing.now) + length listing.now.states.items < 2 ^ 32 }
     ensures { result ≡ first_window (listing_tree listing.now) }
 {
@@ -294,7 +296,7 @@ fn window_line(
 pub(crate) fn line_fault(
     alloc: Global,
     text: &[u8],
-    listing: &Listing,
+    listing: &ProgramSyntax,
     cells: &Names,
     controlled: &[Name],
 ) -> Result<Option<ProgramError>, NoMemory>
@@ -409,7 +411,7 @@ pub(crate) fn use_fault(
 }
 
 /// The limit that the lines pass, if any.
-pub(crate) fn limit_fault(listing: &Listing) -> Option<ProgramError>
+pub(crate) fn limit_fault(listing: &ProgramSyntax) -> Option<ProgramError>
     ensures { result ≡ limit_fault (listing_tree listing.now) }
 {
     if listing.windows.len() > MOST_WINDOWS {

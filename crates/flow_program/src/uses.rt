@@ -3,11 +3,11 @@
 ghost use Rattle.std.specs.Prelude.{◌≡◌, ℕ, ◌+◌, ◌<◌, ◌^◌, ◌++◌, List, Bool, length, map, flat_map, option_map, IfOk, OnOk, IsTrue};
 ghost use Rattle.std.specs.List.{list_all};
 ghost use Rattle.program_listing.specs.Listing.{name_bytes};
-ghost use Rattle.program_listing.specs.internal.NamesStand.{name_stands, phrase_stands, phrases_stand, update_line_stands};
-ghost use Rattle.program_listing.specs.Listing.{count_of_phrases};
+ghost use Rattle.program_listing.specs.internal.NamesStand.{name_stands, surface_stands, surfaces_stand, update_line_stands};
+ghost use Rattle.program_listing.specs.Listing.{count_of_surfaces};
 ghost use Rattle.program_listing.specs.internal.NamesStand.{listed_line_stands, placed_line_stands, left_line_stands, window_line_stands};
 ghost use Rattle.program_listing.specs.internal.NamesStand.{node_line_stands};
-ghost use Rattle.program_listing.specs.Listing.{phrase_tree, phrase_trees, update_line, listed_line, placed_line, window_line, node_line};
+ghost use Rattle.program_listing.specs.Listing.{surface_tree, surface_trees, update_line, listed_line, placed_line, window_line, node_line};
 ghost use Rattle.program_listing.specs.Listing.{listing_tree};
 ghost use Rattle.program_listing.specs.internal.NamesStand.{ListingStands};
 ghost use Rattle.program_listing.specs.ListingTree.{UpdateLine, ListedLine, PlacedLine, WindowLine, NodeLine};
@@ -18,8 +18,8 @@ ghost use Rattle.flow_program.specs.internal.UseView.{use_view};
 
 use crate::rules::{first_node, first_window};
 use program_listing::{
-    Listing, Name, Phrase, PhraseList, SpelledListed, SpelledNode, SpelledPlaced, SpelledUpdate,
-    SpelledWindow,
+    Name, ProgramSyntax, SpelledListed, SpelledNode, SpelledPlaced, SpelledUpdate, SpelledWindow,
+    SurfaceTerm, SurfaceTermList,
 };
 use sequence::NoMemory;
 use std::alloc::Global;
@@ -93,14 +93,14 @@ fn tested_use(text: &[u8], line: u32, place: Name) -> SpelledUse<'_>
     }
 }
 
-/// How many phrases a list has.
-fn count_of_phrases(phrases: &PhraseList) -> u32
-    requires { count_of_phrases (phrase_trees phrases.now) < 2 ^ 32 }
-    ensures { result ≡ count_of_phrases (phrase_trees phrases.now) }
+/// How many surface terms a list has.
+fn count_of_surfaces(surfaces: &SurfaceTermList) -> u32
+    requires { count_of_surfaces (surface_trees surfaces.now) < 2 ^ 32 }
+    ensures { result ≡ count_of_surfaces (surface_trees surfaces.now) }
 {
     let mut count = 0;
-    let mut rest = phrases;
-    while let PhraseList::More(_, next) = rest {
+    let mut rest = surfaces;
+    while let SurfaceTermList::More(_, next) = rest {
         count += 1;
         rest = next;
     }
@@ -114,20 +114,20 @@ fn add_term<'a>(
     list: &mut Vec<SpelledUse<'a>>,
     text: &'a [u8],
     line: u32,
-    term: &Phrase,
+    term: &SurfaceTerm,
 ) -> Result<(), NoMemory>
-    requires stands { IsTrue (phrase_stands text.now (phrase_tree term.now)) }
-    requires few { length (term_uses text.now line (phrase_tree term.now)) < 2 ^ 32 }
+    requires stands { IsTrue (surface_stands text.now (surface_tree term.now)) }
+    requires few { length (term_uses text.now line (surface_tree term.now)) < 2 ^ 32 }
     ensures { OnOk result (map use_view list.new.items
-        ≡ map use_view list.old.items ++ term_uses text.now line (phrase_tree term.now)) }
+        ≡ map use_view list.old.items ++ term_uses text.now line (surface_tree term.now)) }
 {
     match term {
-        Phrase::Bare(name) => {
+        SurfaceTerm::Bare(name) => {
             list.push(read_use(text, line, *name))?;
             Ok(())
         }
-        Phrase::Applied(name, arguments) => {
-            let arity = count_of_phrases(arguments);
+        SurfaceTerm::Applied(name, arguments) => {
+            let arity = count_of_surfaces(arguments);
             list.push(applied_use(text, line, NameKind::Function, *name, arity))?;
             add_terms(list, text, line, arguments)
         }
@@ -140,15 +140,15 @@ fn add_terms<'a>(
     list: &mut Vec<SpelledUse<'a>>,
     text: &'a [u8],
     line: u32,
-    terms: &PhraseList,
+    terms: &SurfaceTermList,
 ) -> Result<(), NoMemory>
-    requires stands { IsTrue (phrases_stand text.now (phrase_trees terms.now)) }
-    requires few { length (terms_uses text.now line (phrase_trees terms.now)) < 2 ^ 32 }
+    requires stands { IsTrue (surfaces_stand text.now (surface_trees terms.now)) }
+    requires few { length (terms_uses text.now line (surface_trees terms.now)) < 2 ^ 32 }
     ensures { OnOk result (map use_view list.new.items
-        ≡ map use_view list.old.items ++ terms_uses text.now line (phrase_trees terms.now)) }
+        ≡ map use_view list.old.items ++ terms_uses text.now line (surface_trees terms.now)) }
 {
     let mut rest = terms;
-    while let PhraseList::More(term, next) = rest {
+    while let SurfaceTermList::More(term, next) = rest {
         add_term(list, text, line, term)?;
         rest = next;
     }
@@ -161,20 +161,20 @@ fn add_test<'a>(
     list: &mut Vec<SpelledUse<'a>>,
     text: &'a [u8],
     line: u32,
-    test: &Phrase,
+    test: &SurfaceTerm,
 ) -> Result<(), NoMemory>
-    requires stands { IsTrue (phrase_stands text.now (phrase_tree test.now)) }
-    requires few { length (test_uses text.now line (phrase_tree test.now)) < 2 ^ 32 }
+    requires stands { IsTrue (surface_stands text.now (surface_tree test.now)) }
+    requires few { length (test_uses text.now line (surface_tree test.now)) < 2 ^ 32 }
     ensures { OnOk result (map use_view list.new.items
-        ≡ map use_view list.old.items ++ test_uses text.now line (phrase_tree test.now)) }
+        ≡ map use_view list.old.items ++ test_uses text.now line (surface_tree test.now)) }
 {
     match test {
-        Phrase::Bare(name) => {
+        SurfaceTerm::Bare(name) => {
             list.push(tested_use(text, line, *name))?;
             Ok(())
         }
-        Phrase::Applied(name, arguments) => {
-            let arity = count_of_phrases(arguments);
+        SurfaceTerm::Applied(name, arguments) => {
+            let arity = count_of_surfaces(arguments);
             list.push(applied_use(text, line, NameKind::Predicate, *name, arity))?;
             add_terms(list, text, line, arguments)
         }
@@ -387,7 +387,7 @@ fn add_declared<'a>(
 pub(crate) fn all_uses<'a>(
     alloc: Global,
     text: &'a [u8],
-    listing: &Listing,
+    listing: &ProgramSyntax,
 ) -> Result<Vec<SpelledUse<'a>>, NoMemory>
     requires stands { ListingStands text.now (listing_tree listing.now) }
     requires lines { first_state (listing_tree listing.now)

@@ -38,18 +38,18 @@ module _ (named : List ℕ → Option Definition) (bodies : BodiesDerive named) 
           (λ k small. formula_derives (expansion_within named n) atoms (passed d.parameters ys) k b.derived small)
           (subst (λ g. depth g ≤ m) (sym same) few))
 
-  -- the expansion derives with exactly the room that its depth asks for, which is computed without making it
-  pub expansion_derives : (n : ℕ) (a : FormulaSyntax) → Derivable a → (room : ℕ) → fold_by depths (number_within depths named n) a ≤ room →
-      FormulaDerives room (expanded (expansion_within named n) (λ x. x) a)
-  expansion_derives n a h room few =
-      formula_derives (expansion_within named n) (puts_atoms n) (λ x. x) room h.derived
-      (subst (λ m. m ≤ room) (sym (number_of_expansion depths named n (λ x. x) a)
+  -- the expansion derives with exactly as many levels as its depth asks for, which is computed without making it
+  pub expansion_derives : (n : ℕ) (a : FormulaSyntax) → Derivable a → (levels_left : ℕ) → fold_by depths (number_within depths named n) a ≤ levels_left →
+      FormulaDerives levels_left (expanded (expansion_within named n) (λ x. x) a)
+  expansion_derives n a h levels_left few =
+      formula_derives (expansion_within named n) (puts_atoms n) (λ x. x) levels_left h.derived
+      (subst (λ m. m ≤ levels_left) (sym (number_of_expansion depths named n (λ x. x) a)
       ∙ depth_is (expanded (expansion_within named n) (λ x. x) a)) few)
 
-  pub expansion_needs : (n : ℕ) (a : FormulaSyntax) (room : ℕ) → FormulaDerives room (expanded (expansion_within named n) (λ x. x) a) →
-      fold_by depths (number_within depths named n) a ≤ room
-  expansion_needs n a room h =
-      subst (λ m. m ≤ room) (sym (depth_is (expanded (expansion_within named n) (λ x. x) a))
+  pub expansion_needs : (n : ℕ) (a : FormulaSyntax) (levels_left : ℕ) → FormulaDerives levels_left (expanded (expansion_within named n) (λ x. x) a) →
+      fold_by depths (number_within depths named n) a ≤ levels_left
+  expansion_needs n a levels_left h =
+      subst (λ m. m ≤ levels_left) (sym (depth_is (expanded (expansion_within named n) (λ x. x) a))
       ∙ number_of_expansion depths named n (λ x. x) a)
       (formula_fits h)
 

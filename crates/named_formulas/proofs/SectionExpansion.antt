@@ -21,29 +21,29 @@ use Rattle.named_formulas.proofs.LevelLaws.{expansion_derives}
 use Rattle.named_formulas.proofs.OneExpansion.{one_expansion}
 
 -- a formula that derives from some terminals does from what it is written with
-as_it_is_written : {room : ℕ} {xs : List Terminal} {f : FormulaSyntax} → IsFormula room xs f → FormulaDerives room f
-as_it_is_written {room = room} {f = f} h = subst (λ ts. IsFormula room ts f) (formula_is h) h
+as_it_is_written : {levels_left : ℕ} {xs : List Terminal} {f : FormulaSyntax} → IsFormula levels_left xs f → FormulaDerives levels_left f
+as_it_is_written {levels_left = levels_left} {f = f} h = subst (λ ts. IsFormula levels_left ts f) (formula_is h) h
 
 -- ---- what derives from sections
 
-items_derive : {room : ℕ} {xs : List Terminal} {fs : List FormulaSyntax} → AreItems room xs fs →
-    AllByRecursion (FormulaDerives room) fs
+items_derive : {levels_left : ℕ} {xs : List Terminal} {fs : List FormulaSyntax} → AreItems levels_left xs fs →
+    AllByRecursion (FormulaDerives levels_left) fs
 items_derive no_item = tt
 items_derive (last_item h) = (as_it_is_written h, tt)
 items_derive (item h k) = (as_it_is_written h, items_derive k)
 
-formulas_derive : {room : ℕ} {xs : List Terminal} {ss : List SectionSyntax} → AreSections room xs ss → FormulasDerive room ss
+formulas_derive : {levels_left : ℕ} {xs : List Terminal} {ss : List SectionSyntax} → AreSections levels_left xs ss → FormulasDerive levels_left ss
 formulas_derive no_section = tt
 formulas_derive (section (braces head items) more) = (items_derive items, formulas_derive more)
 
--- more room is as good
+-- more levels are as good
 
-more_for_items : {room r : ℕ} → room ≤ r → (fs : List FormulaSyntax) → AllByRecursion (FormulaDerives room) fs →
+more_for_items : {levels_left r : ℕ} → levels_left ≤ r → (fs : List FormulaSyntax) → AllByRecursion (FormulaDerives levels_left) fs →
     AllByRecursion (FormulaDerives r) fs
 more_for_items few [] h = tt
 more_for_items few (f ∷ fs) h = (lift_formula few h.0, more_for_items few fs h.1)
 
-more_for_sections : {room r : ℕ} → room ≤ r → (ss : List SectionSyntax) → FormulasDerive room ss → FormulasDerive r ss
+more_for_sections : {levels_left r : ℕ} → levels_left ≤ r → (ss : List SectionSyntax) → FormulasDerive levels_left ss → FormulasDerive r ss
 more_for_sections few [] h = tt
 more_for_sections few (s ∷ ss) h = (more_for_items few s.formulas h.0, more_for_sections few ss h.1)
 
@@ -69,11 +69,11 @@ module _ (all : List ℕ → Option Definition) (rank : List ℕ → ℕ) (ranke
   head_expands always_assume = kept (word Always) refl (kept (word Assume) refl nothing)
   head_expands always_guarantee = kept (word Always) refl (kept (word Guarantee) refl nothing)
 
-  formula_text : {room : ℕ} {xs : List Terminal} (f : FormulaSyntax) → IsFormula room xs f → UsesWell all rank n f →
+  formula_text : {levels_left : ℕ} {xs : List Terminal} (f : FormulaSyntax) → IsFormula levels_left xs f → UsesWell all rank n f →
       Expands (as_written all) xs (written (whole f))
   formula_text f h well = subst (λ ts. Expands (as_written all) ts (written (whole f))) (sym (formula_is h)) (text_expands all rank ranked n f well)
 
-  items_expand : {room : ℕ} (r : ℕ) {xs : List Terminal} {fs : List FormulaSyntax} → AreItems room xs fs →
+  items_expand : {levels_left : ℕ} (r : ℕ) {xs : List Terminal} {fs : List FormulaSyntax} → AreItems levels_left xs fs →
       AllByRecursion (UsesWell all rank n) fs → AllByRecursion (FormulaDerives r) (map whole fs) →
       ExpandsTo xs (λ ys. AreItems r ys (map whole fs))
   items_expand r no_item well fit = ([], nothing, no_item)
@@ -85,7 +85,7 @@ module _ (all : List ℕ → Option Definition) (rank : List ℕ → ℕ) (ranke
         item fit.0 rest.2,
       )
 
-  section_expands : {room : ℕ} (r : ℕ) {xs : List Terminal} {s : SectionSyntax} → IsSection room xs s →
+  section_expands : {levels_left : ℕ} (r : ℕ) {xs : List Terminal} {s : SectionSyntax} → IsSection levels_left xs s →
       AllByRecursion (UsesWell all rank n) s.formulas → AllByRecursion (FormulaDerives r) (map whole s.formulas) →
       ExpandsTo xs (λ ys. IsSection r ys (expanded_section (expansion_within all n) s))
   section_expands r (braces {xs = xs} head items) well fit =
@@ -97,7 +97,7 @@ module _ (all : List ℕ → Option Definition) (rank : List ℕ → ℕ) (ranke
       )
 
   -- where each formula derives with its uses replaced, so do the sections
-  pub sections_expand : {room : ℕ} (r : ℕ) {xs : List Terminal} (ss : List SectionSyntax) → AreSections room xs ss →
+  pub sections_expand : {levels_left : ℕ} (r : ℕ) {xs : List Terminal} (ss : List SectionSyntax) → AreSections levels_left xs ss →
       SectionsUseWell all rank n ss → FormulasDerive r (all_whole ss) →
       ExpandsTo xs (λ ys. AreSections r ys (all_whole ss))
   sections_expand r ss no_section well fit = ([], nothing, no_section)
@@ -106,22 +106,22 @@ module _ (all : List ℕ → Option Definition) (rank : List ℕ → ℕ) (ranke
       let rest = sections_expand r ss k well.1 fit.1 in
       (first.0 ++ rest.0, both_expand all rank first.1 rest.1, section first.2 rest.2)
 
-  -- ---- there is room enough
+  -- ---- there are levels enough
 
   module _ (bodies : BodiesDerive all) where
-    room_for_items : {room : ℕ} {xs : List Terminal} {fs : List FormulaSyntax} → AreItems room xs fs →
+    room_for_items : {levels_left : ℕ} {xs : List Terminal} {fs : List FormulaSyntax} → AreItems levels_left xs fs →
         (r : ℕ) × AllByRecursion (FormulaDerives r) (map whole fs)
     room_for_items no_item = (0, tt)
-    room_for_items {room = room} (last_item {xs = xs} {f = f} h) =
+    room_for_items {levels_left = levels_left} (last_item {xs = xs} {f = f} h) =
         let r = fold_by depths (number_within depths all n) f in
-        (r, (expansion_derives all bodies n f (record { room = room; terminals = xs; derived = h }) r (omega arith), tt))
-    room_for_items {room = room} (item {xs = xs} {f = f} {fs = fs} h k) =
+        (r, (expansion_derives all bodies n f (record { levels_left = levels_left; terminals = xs; derived = h }) r (omega arith), tt))
+    room_for_items {levels_left = levels_left} (item {xs = xs} {f = f} {fs = fs} h k) =
         let r = fold_by depths (number_within depths all n) f in
         let rest = room_for_items k in
-        let here = expansion_derives all bodies n f (record { room = room; terminals = xs; derived = h }) r (omega arith) in
+        let here = expansion_derives all bodies n f (record { levels_left = levels_left; terminals = xs; derived = h }) r (omega arith) in
         (max r rest.0, (lift_formula (omega arith) here, more_for_items (omega arith) (map whole fs) rest.1))
 
-    room_for_sections : {room : ℕ} {xs : List Terminal} (ss : List SectionSyntax) → AreSections room xs ss →
+    room_for_sections : {levels_left : ℕ} {xs : List Terminal} (ss : List SectionSyntax) → AreSections levels_left xs ss →
         (r : ℕ) × FormulasDerive r (all_whole ss)
     room_for_sections ss no_section = (0, tt)
     room_for_sections (s ∷ ss) (section (braces head items) k) =
@@ -132,7 +132,7 @@ module _ (all : List ℕ → Option Definition) (rank : List ℕ → ℕ) (ranke
         )
 
     -- what the text of sections expands to derives from nothing else
-    pub one_expansion_of_sections : {room : ℕ} (r : ℕ) {xs ys : List Terminal} (ss rs : List SectionSyntax) → AreSections room xs ss →
+    pub one_expansion_of_sections : {levels_left : ℕ} (r : ℕ) {xs ys : List Terminal} (ss rs : List SectionSyntax) → AreSections levels_left xs ss →
         SectionsUseWell all rank n ss → Expands (as_written all) xs ys → AreSections r ys rs →
         (rs ≡ all_whole ss) × FormulasDerive r (all_whole ss)
     one_expansion_of_sections r {xs = xs} {ys = ys} ss rs h well to derived =

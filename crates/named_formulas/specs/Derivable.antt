@@ -5,15 +5,15 @@ use Rattle.spec_syntax.specs.Grammar.{IsFormula}
 use Rattle.spec_syntax.specs.Written.{written}
 use Rattle.spec_syntax.specs.Syntax.{Definition}
 
--- the formula derives from some terminals, with some room
+-- the formula derives from some terminals, with some levels
 pub record Derivable (a : FormulaSyntax) : Type 0 where
-  pub room : ℕ
+  pub levels_left : ℕ
   pub terminals : List Terminal
-  pub derived : IsFormula room terminals a
+  pub derived : IsFormula levels_left terminals a
 
--- the formula derives from what it is written with, with this room
+-- the formula derives from what it is written with, with these levels left
 abbrev pub FormulaDerives : ℕ → FormulaSyntax → Type 0
-FormulaDerives room a = IsFormula room (written a) a
+FormulaDerives levels_left a = IsFormula levels_left (written a) a
 
 -- each definition's body derives
 abbrev pub BodiesDerive : (List ℕ → Option Definition) → Type 0

@@ -20,6 +20,6 @@ EachFormula Such = AllByRecursion (λ s. AllByRecursion Such s.formulas)
 abbrev pub SectionsUseWell : (List ℕ → Option Definition) → (List ℕ → ℕ) → ℕ → List SectionSyntax → Type 0
 SectionsUseWell named rank below = EachFormula (UsesWell named rank below)
 
--- each formula derives with this room from what it is written with
+-- each formula derives with these levels left from what it is written with
 abbrev pub FormulasDerive : ℕ → List SectionSyntax → Type 0
-FormulasDerive room = EachFormula (FormulaDerives room)
+FormulasDerive levels_left = EachFormula (FormulaDerives levels_left)

@@ -56,17 +56,17 @@ pub fn numbers_are_told_without_expansion()
 {}
 
 /// Where the bodies of definitions derive, the expansion of a formula that does derives with exactly the
-/// room that is told without making it. And one that is within the levels as it is written is so expanded
+/// levels that are told without making it. And one that is within the levels as it is written is so expanded
 /// exactly where each of its uses is.
 pub fn levels_are_told_without_expansion()
     ensures derives { (named : List ℕ → Option Definition) → BodiesDerive named
-        → (n : ℕ) (a : FormulaSyntax) → Derivable a → (room : ℕ)
-        → fold_by depths (number_within depths named n) a ≤ room
-        → FormulaDerives room (expanded (expansion_within named n) (λ x. x) a) }
+        → (n : ℕ) (a : FormulaSyntax) → Derivable a → (levels_left : ℕ)
+        → fold_by depths (number_within depths named n) a ≤ levels_left
+        → FormulaDerives levels_left (expanded (expansion_within named n) (λ x. x) a) }
     ensures needs { (named : List ℕ → Option Definition) → BodiesDerive named
-        → (n : ℕ) (a : FormulaSyntax) (room : ℕ)
-        → FormulaDerives room (expanded (expansion_within named n) (λ x. x) a)
-        → fold_by depths (number_within depths named n) a ≤ room }
+        → (n : ℕ) (a : FormulaSyntax) (levels_left : ℕ)
+        → FormulaDerives levels_left (expanded (expansion_within named n) (λ x. x) a)
+        → fold_by depths (number_within depths named n) a ≤ levels_left }
     ensures uses { (deepest : ℕ) (needs : List ℕ → Option ℕ) (level : ℕ) (a : FormulaSyntax)
         → level + fold_by depths needs a ≤ deepest → AreWithin deepest needs (uses_at level a) }
     ensures within { (deepest : ℕ) (needs : List ℕ → Option ℕ) (level : ℕ) (a : FormulaSyntax)
@@ -98,18 +98,18 @@ pub fn cycles_are_there()
 {}
 
 /// Where each definition uses only those of a lower rank, the text of sections expands to that of the
-/// sections in which each use is replaced, where each formula of these derives with some room; and what it
-/// expands to derives from no other sections, with room for each of their formulas.
+/// sections in which each use is replaced, where each formula of these derives with some levels; and what it
+/// expands to derives from no other sections, with levels enough for each of their formulas.
 pub fn sections_expand_as_their_formulas()
     ensures expands { (named : List ℕ → Option Definition) (rank : List ℕ → ℕ) → AreRanked named rank
-        → (n room r : ℕ) (xs : List Terminal) (ss : List SectionSyntax) → AreSections room xs ss
+        → (n levels_left r : ℕ) (xs : List Terminal) (ss : List SectionSyntax) → AreSections levels_left xs ss
         → SectionsUseWell named rank n ss
         → FormulasDerive r (expanded_sections (expansion_within named n) ss)
         → (ys : List Terminal) × Expands (as_written named) xs ys
         × AreSections r ys (expanded_sections (expansion_within named n) ss) }
     ensures alone { (named : List ℕ → Option Definition) (rank : List ℕ → ℕ) → AreRanked named rank
         → BodiesDerive named
-        → (n room r : ℕ) (xs ys : List Terminal) (ss rs : List SectionSyntax) → AreSections room xs ss
+        → (n levels_left r : ℕ) (xs ys : List Terminal) (ss rs : List SectionSyntax) → AreSections levels_left xs ss
         → SectionsUseWell named rank n ss
         → Expands (as_written named) xs ys → AreSections r ys rs
         → (rs ≡ expanded_sections (expansion_within named n) ss)

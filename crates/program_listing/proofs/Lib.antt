@@ -1,12 +1,12 @@
 pub mod Strips
 pub mod Numbers
-pub mod PhraseLists
+pub mod SurfaceTermLists
 pub mod Standing
 pub mod Repeats
 pub mod Exactly
 pub mod WordsRead
 pub mod BracketLevels
-pub mod PhrasesRead
+pub mod SurfaceTermsRead
 pub mod LinesRead
 pub mod OrderOfLines
 pub mod LineFeeds

@@ -15,7 +15,7 @@ use Rattle.tsl_text.specs.Written.{is_line}
 use Rattle.tsl_text.proofs.LineLaws.{split_feed}
 use Rattle.tsl_text.proofs.NumberLaws.{decimal_digits}
 use Rattle.program_listing.specs.declared.listing.Name.{Name}
-use Rattle.program_listing.specs.ListingTree.{PhraseTree, bare, applied, PhraseTrees, no_phrases, more_phrases, UpdateLine, ListedLine}
+use Rattle.program_listing.specs.ListingTree.{SurfaceTermTree, bare, applied, SurfaceTermTrees, no_surfaces, more_surfaces, UpdateLine, ListedLine}
 use Rattle.program_listing.specs.ListingTree.{PlacedLine, WindowLine, NodeLine, branch_line, assignment_line}
 use Rattle.program_listing.specs.LineText.{
   Piece,
@@ -24,8 +24,8 @@ use Rattle.program_listing.specs.LineText.{
   Place,
   Stand,
   argument_pieces,
-  phrase_pieces,
-  phrases_pieces,
+  surface_pieces,
+  surfaces_pieces,
   LineTree,
   head_line,
   input,
@@ -100,24 +100,24 @@ number_lined : (n : ℕ) (xs : List Piece) → IsTrue (is_short n) → are_lined
 number_lined n xs h k = and_from (is_line (decimal n)) (are_lined xs) (decimal_is_line n h) k
 
 mutual
-  phrase_lined : (v : PhraseTree) → are_lined (phrase_pieces v) ≡ true
-  phrase_lined (bare n) = refl
-  phrase_lined (applied n no_phrases) = refl
-  phrase_lined (applied n (more_phrases v vs)) = phrases_lined (more_phrases v vs)
+  surface_lined : (v : SurfaceTermTree) → are_lined (surface_pieces v) ≡ true
+  surface_lined (bare n) = refl
+  surface_lined (applied n no_surfaces) = refl
+  surface_lined (applied n (more_surfaces v vs)) = surfaces_lined (more_surfaces v vs)
 
-  phrases_lined : (vs : PhraseTrees) → are_lined (phrases_pieces vs) ≡ true
-  phrases_lined no_phrases = refl
-  phrases_lined (more_phrases v vs) =
-      lined_append (argument_pieces v (phrase_pieces v)) (phrases_pieces vs) (argument_lined v) (phrases_lined vs)
+  surfaces_lined : (vs : SurfaceTermTrees) → are_lined (surfaces_pieces vs) ≡ true
+  surfaces_lined no_surfaces = refl
+  surfaces_lined (more_surfaces v vs) =
+      lined_append (argument_pieces v (surface_pieces v)) (surfaces_pieces vs) (argument_lined v) (surfaces_lined vs)
 
-  argument_lined : (v : PhraseTree) → are_lined (argument_pieces v (phrase_pieces v)) ≡ true
+  argument_lined : (v : SurfaceTermTree) → are_lined (argument_pieces v (surface_pieces v)) ≡ true
   argument_lined (bare n) = refl
-  argument_lined (applied n no_phrases) = refl
-  argument_lined (applied n (more_phrases v vs)) =
-      lined_append (phrases_pieces (more_phrases v vs)) (word (codes ")") ∷ []) (phrases_lined (more_phrases v vs)) refl
+  argument_lined (applied n no_surfaces) = refl
+  argument_lined (applied n (more_surfaces v vs)) =
+      lined_append (surfaces_pieces (more_surfaces v vs)) (word (codes ")") ∷ []) (surfaces_lined (more_surfaces v vs)) refl
 
-update_lined : (n : Name) (v : PhraseTree) → are_lined (update_pieces n v) ≡ true
-update_lined n v = lined_append (phrase_pieces v) (word (codes "]") ∷ []) (phrase_lined v) refl
+update_lined : (n : Name) (v : SurfaceTermTree) → are_lined (update_pieces n v) ≡ true
+update_lined n v = lined_append (surface_pieces v) (word (codes "]") ∷ []) (surface_lined v) refl
 
 listed_lined : (u : ListedLine) → listed_is_within u ≡ true → are_lined (listed_pieces u) ≡ true
 listed_lined u h =
@@ -126,7 +126,7 @@ listed_lined u h =
 
 placed_lined : (t : PlacedLine) → placed_is_within t ≡ true → are_lined (placed_pieces t) ≡ true
 placed_lined t h =
-    lined_append (phrase_pieces t.test) (word (codes " at ") ∷ word (decimal t.step) ∷ []) (phrase_lined t.test)
+    lined_append (surface_pieces t.test) (word (codes " at ") ∷ word (decimal t.step) ∷ []) (surface_lined t.test)
     (number_lined t.step [] (and_parts (is_shallow t.test) (is_short t.step) h).1 refl)
 
 left_lined : (left : Option PlacedLine) → left_is_within left ≡ true → are_lined (left_pieces left) ≡ true
@@ -150,8 +150,8 @@ node_lined : (n : NodeLine) → node_is_within n ≡ true → are_lined (node_pi
 node_lined (branch_line v a b) h =
     let parts = and_parts (is_shallow v) (is_short a && is_short b) h in
     let numbers = and_parts (is_short a) (is_short b) parts.1 in
-    lined_append (phrase_pieces v) (word (codes " then ") ∷ word (decimal a) ∷ word (codes " else ") ∷ word (decimal b) ∷ [])
-    (phrase_lined v)
+    lined_append (surface_pieces v) (word (codes " then ") ∷ word (decimal a) ∷ word (codes " else ") ∷ word (decimal b) ∷ [])
+    (surface_lined v)
     (number_lined a (word (codes " else ") ∷ word (decimal b) ∷ []) numbers.0 (number_lined b [] numbers.1 refl))
 node_lined (assignment_line us go) h =
     let parts = and_parts (list_all (λ (u : UpdateLine). is_shallow u.term) us) (is_short go) h in

@@ -9,15 +9,15 @@ use Rattle.std.proofs.lemmas.Option.{none-some, same_Some}
 use Rattle.tsl_text.specs.Lines.{has_bytes}
 use Rattle.tsl_text.specs.Names.{is_name_start, is_name_byte}
 use Rattle.line_formats.specs.Format.{strip}
-use Rattle.program_listing.specs.ListingTree.{PhraseTree, UpdateLine, ListedLine, PlacedLine, WindowLine, NodeLine, branch_line}
+use Rattle.program_listing.specs.ListingTree.{SurfaceTermTree, UpdateLine, ListedLine, PlacedLine, WindowLine, NodeLine, branch_line}
 use Rattle.program_listing.specs.ListingTree.{assignment_line}
-use Rattle.program_listing.specs.LineText.{Piece, word, Place, Stand, phrase_pieces, LineTree, head_line, input, cell, output, window, node}
+use Rattle.program_listing.specs.LineText.{Piece, word, Place, Stand, surface_pieces, LineTree, head_line, input, cell, output, window, node}
 use Rattle.program_listing.specs.LineText.{state, end_line, update_pieces, set_pieces, listed_pieces, placed_pieces, equated_pieces}
 use Rattle.program_listing.specs.LineText.{left_pieces, window_pieces}
 use Rattle.program_listing.specs.LineText.{node_pieces, line_pieces, is_short, is_shallow, listed_is_within, placed_is_within}
 use Rattle.program_listing.specs.LineText.{left_is_within, window_is_within, node_is_within, line_is_within}
 use Rattle.program_listing.specs.internal.LineReading.{LineReader, past, from, pair, mapped, prefixed, closed, repeat, value_at_end, at_end}
-use Rattle.program_listing.specs.internal.LineReading.{begins, first_number, phrase, update, is_square, update_follows, as_update}
+use Rattle.program_listing.specs.internal.LineReading.{begins, first_number, surface, update, is_square, update_follows, as_update}
 use Rattle.program_listing.specs.internal.LineReading.{set_update}
 use Rattle.program_listing.specs.internal.LineReading.{as_listed, listed, listed_follows, as_placed, placed, equated, left_side, as_window}
 use Rattle.program_listing.specs.internal.LineReading.{window_rest, as_branch, branch_rest}
@@ -29,7 +29,7 @@ use Rattle.program_listing.proofs.Repeats.{Shrinks}
 use Rattle.program_listing.proofs.Exactly.{Reads, Any, prefixed_reads, closed_reads, mapped_reads, pair_reads, repeat_reads}
 use Rattle.program_listing.proofs.Numbers.{FirstDigit, first_digit}
 use Rattle.program_listing.proofs.WordsRead.{NoLetter, NoDigit, number_pieces, short_below, name_reads, number_reads}
-use Rattle.program_listing.proofs.PhrasesRead.{EndsPhrase, ends_phrase, phrase_letter, phrase_reads}
+use Rattle.program_listing.proofs.SurfaceTermsRead.{EndsSurfaceTerm, ends_surface, surface_letter, surface_reads}
 
 -- ---- what follows a test
 
@@ -45,15 +45,15 @@ number_bytes w n p q s good =
       digit.digit,
     )
 
-at_ends : (n : ℕ) (p q : Place) → Stand (word (codes " at ") ∷ number_pieces n) p q → IsTrue (is_short n) → EndsPhrase p.bytes
+at_ends : (n : ℕ) (p q : Place) → Stand (word (codes " at ") ∷ number_pieces n) p q → IsTrue (is_short n) → EndsSurfaceTerm p.bytes
 at_ends n p q s good =
     let b = number_bytes (codes " at ") n p q s good in
-    ap ends_phrase b.2 ∙ ap (λ (t : Bool). not (not t)) b.3
+    ap ends_surface b.2 ∙ ap (λ (t : Bool). not (not t)) b.3
 
-then_ends : (n : ℕ) (p q : Place) → Stand (word (codes " then ") ∷ number_pieces n) p q → IsTrue (is_short n) → EndsPhrase p.bytes
+then_ends : (n : ℕ) (p q : Place) → Stand (word (codes " then ") ∷ number_pieces n) p q → IsTrue (is_short n) → EndsSurfaceTerm p.bytes
 then_ends n p q s good =
     let b = number_bytes (codes " then ") n p q s good in
-    ap ends_phrase b.2 ∙ ap (λ (t : Bool). not (not t)) b.3
+    ap ends_surface b.2 ∙ ap (λ (t : Bool). not (not t)) b.3
 
 -- ---- updates
 
@@ -61,7 +61,7 @@ update_reads : Reads update (λ u. update_pieces u.0 u.1) (λ u. is_shallow u.1)
 update_reads =
     closed_reads (codes "]") (λ rest. refl)
     (pair_reads (λ t p q s good ends. ap (begins is_name_byte) s.1) (prefixed_reads (codes "[") name_reads)
-    (prefixed_reads (codes " <- ") phrase_reads))
+    (prefixed_reads (codes " <- ") surface_reads))
 
 set_reads : Reads set_update set_pieces (λ u. is_shallow u.term) Any
 set_reads =
@@ -100,7 +100,7 @@ AtEnd bytes = bytes ≡ []
 placed_reads : Reads placed placed_pieces placed_is_within NoDigit
 placed_reads =
     mapped_reads as_placed (λ (t : PlacedLine). (t.test, t.step)) placed_pieces placed_is_within (λ t. refl) (λ t. refl) (λ t. refl)
-    (pair_reads (λ n p q s good ends. at_ends n p q s good) phrase_reads (prefixed_reads (codes " at ") number_reads))
+    (pair_reads (λ n p q s good ends. at_ends n p q s good) surface_reads (prefixed_reads (codes " at ") number_reads))
 
 equated_reads : Reads equated equated_pieces placed_is_within NoDigit
 equated_reads = prefixed_reads (codes " when ") placed_reads
@@ -183,8 +183,8 @@ equated_follow [] p q s ends =
 equated_follow (e ∷ es) p q s ends =
     let m : Place = record { at = p.at + 6; bytes = s.0 } in
     let first = stand_split (placed_pieces e) (flat_map equated_pieces es) m q s.2 in
-    let test = stand_split (phrase_pieces e.test) (word (codes " at ") ∷ word (decimal e.step) ∷ []) m first.0 first.1 in
-    let letter = phrase_letter e.test m test.0 test.1 in (
+    let test = stand_split (surface_pieces e.test) (word (codes " at ") ∷ word (decimal e.step) ∷ []) m first.0 first.1 in
+    let letter = surface_letter e.test m test.0 test.1 in (
       ap listed_follows (s.1 ∙ ap (λ (zs : List ℕ). codes " when " ++ zs) letter.2) ∙ letter_no_square letter.0 letter.1 letter.3,
       ap (begins is_ascii_digit) s.1,
     )
@@ -213,20 +213,20 @@ window_reads =
 
 -- ---- nodes
 
-abbrev branch_pieces : PhraseTree × (ℕ × ℕ) → List Piece
+abbrev branch_pieces : SurfaceTermTree × (ℕ × ℕ) → List Piece
 branch_pieces b =
-    phrase_pieces b.0 ++ word (codes " then ") ∷ word (decimal b.1.0) ∷ word (codes " else ") ∷ word (decimal b.1.1) ∷ []
+    surface_pieces b.0 ++ word (codes " then ") ∷ word (decimal b.1.0) ∷ word (codes " else ") ∷ word (decimal b.1.1) ∷ []
 
-branch_reads : Reads (pair phrase (pair (prefixed (codes " then ") first_number) (prefixed (codes " else ") first_number))) branch_pieces
+branch_reads : Reads (pair surface (pair (prefixed (codes " then ") first_number) (prefixed (codes " else ") first_number))) branch_pieces
     (λ b. is_shallow b.0 && (is_short b.1.0 && is_short b.1.1)) NoDigit
 branch_reads =
-    pair_reads (λ v p q s good ends. then_first v p q s (and_parts (is_short v.0) (is_short v.1) good).0) phrase_reads
+    pair_reads (λ v p q s good ends. then_first v p q s (and_parts (is_short v.0) (is_short v.1) good).0) surface_reads
     (pair_reads (λ n p q s good ends. ap (begins is_ascii_digit) s.1) (prefixed_reads (codes " then ") number_reads)
     (prefixed_reads (codes " else ") number_reads))
   where
     then_first : (v : ℕ × ℕ) (p q : Place) →
         Stand (word (codes " then ") ∷ word (decimal v.0) ∷ word (codes " else ") ∷ word (decimal v.1) ∷ []) p q → IsTrue (is_short v.0) →
-        EndsPhrase p.bytes
+        EndsSurfaceTerm p.bytes
     then_first v p q s good =
         let parts = stand_split (word (codes " then ") ∷ number_pieces v.0) (word (codes " else ") ∷ number_pieces v.1) p q s in
         then_ends v.0 p parts.0 parts.1 good
@@ -255,10 +255,10 @@ node_reads : Reads node_rest node_pieces node_is_within NoDigit
 node_reads = record { sound = sound; complete = complete } where
   branch_sound : (m : Place) (n : NodeLine) (q : Place) → branch_rest m ≡ Some (n, q) → (p : Place) (rest : List ℕ) →
       p.bytes ≡ codes " if " ++ rest → m ≡ record { at = p.at + 4; bytes = rest } → Stand (node_pieces n) p q × IsTrue (node_is_within n)
-  branch_sound m n q e p rest f g = by_read (pair phrase (pair (prefixed (codes " then ") first_number) (prefixed
+  branch_sound m n q e p rest f g = by_read (pair surface (pair (prefixed (codes " then ") first_number) (prefixed
       (codes " else ") first_number)) m) refl e where
-        by_read : (o : Option ((PhraseTree × (ℕ × ℕ)) × Place)) →
-            pair phrase (pair (prefixed (codes " then ") first_number) (prefixed (codes " else ") first_number)) m ≡ o →
+        by_read : (o : Option ((SurfaceTermTree × (ℕ × ℕ)) × Place)) →
+            pair surface (pair (prefixed (codes " then ") first_number) (prefixed (codes " else ") first_number)) m ≡ o →
             mapped as_branch o ≡ Some (n, q) → Stand (node_pieces n) p q × IsTrue (node_is_within n)
         by_read None x y = absurd (none-some (n, q) y)
         by_read (Some (b, k)) x y =

@@ -9,9 +9,9 @@ use Rattle.sequence.proofs.Passes.{list_all_parts, list_all_joined}
 use Rattle.tsl_text.specs.Names.{is_usable}
 use Rattle.tsl_terms.specs.Name.{AreDistinct}
 use Rattle.program_listing.specs.declared.listing.Name.{Name}
-use Rattle.program_listing.specs.ListingTree.{PhraseTree, bare, applied, PhraseTrees, no_phrases, more_phrases, UpdateLine, ListedLine}
+use Rattle.program_listing.specs.ListingTree.{SurfaceTermTree, bare, applied, SurfaceTermTrees, no_surfaces, more_surfaces, UpdateLine, ListedLine}
 use Rattle.program_listing.specs.ListingTree.{PlacedLine, WindowLine, NodeLine, branch_line, assignment_line, ListingTree}
-use Rattle.program_listing.specs.LineText.{Piece, word, named, Place, Stand, argument_pieces, phrase_pieces, phrases_pieces, LineTree}
+use Rattle.program_listing.specs.LineText.{Piece, word, named, Place, Stand, argument_pieces, surface_pieces, surfaces_pieces, LineTree}
 use Rattle.program_listing.specs.LineText.{input}
 use Rattle.program_listing.specs.LineText.{cell, output, window, node, end_line, update_pieces, set_pieces, listed_pieces}
 use Rattle.program_listing.specs.LineText.{placed_pieces, equated_pieces, left_pieces, window_pieces, node_pieces, line_pieces}
@@ -20,7 +20,7 @@ use Rattle.program_listing.specs.LineText.{listed_is_within, placed_is_within, l
 use Rattle.program_listing.specs.LineText.{line_is_within, node_lines}
 use Rattle.program_listing.specs.LineText.{state_lines, listing_lines}
 use Rattle.program_listing.specs.Listing.{name_bytes}
-use Rattle.program_listing.specs.internal.NamesStand.{name_stands, phrase_stands, phrases_stand, is_phrase}
+use Rattle.program_listing.specs.internal.NamesStand.{name_stands, surface_stands, surfaces_stand, is_surface}
 use Rattle.program_listing.specs.Listing.{declared_entry}
 use Rattle.program_listing.specs.internal.NamesStand.{update_line_stands, listed_line_stands, placed_line_stands, left_line_stands}
 use Rattle.program_listing.specs.internal.NamesStand.{window_line_stands, node_line_stands}
@@ -113,39 +113,39 @@ many_stand text pieces good stands each (a ∷ as') h k =
 
 module _ (text : List ℕ) where
   mutual
-    phrase_is : (v : PhraseTree) → pieces_stand text (phrase_pieces v) ≡ true → phrase_stands text v ≡ true
-    phrase_is (bare n) h = (and_parts (name_stands text n) true h).0
-    phrase_is (applied n no_phrases) h = and_from (name_stands text n) true (and_parts (name_stands text n) true h).0 refl
-    phrase_is (applied n (more_phrases v vs)) h =
-        let parts = and_parts (name_stands text n) (pieces_stand text (phrases_pieces (more_phrases v vs))) h in
-        and_from (name_stands text n) (phrases_stand text (more_phrases v vs)) parts.0 (phrases_are (more_phrases v vs) parts.1)
+    surface_is : (v : SurfaceTermTree) → pieces_stand text (surface_pieces v) ≡ true → surface_stands text v ≡ true
+    surface_is (bare n) h = (and_parts (name_stands text n) true h).0
+    surface_is (applied n no_surfaces) h = and_from (name_stands text n) true (and_parts (name_stands text n) true h).0 refl
+    surface_is (applied n (more_surfaces v vs)) h =
+        let parts = and_parts (name_stands text n) (pieces_stand text (surfaces_pieces (more_surfaces v vs))) h in
+        and_from (name_stands text n) (surfaces_stand text (more_surfaces v vs)) parts.0 (surfaces_are (more_surfaces v vs) parts.1)
 
-    phrases_are : (vs : PhraseTrees) → pieces_stand text (phrases_pieces vs) ≡ true → phrases_stand text vs ≡ true
-    phrases_are no_phrases h = refl
-    phrases_are (more_phrases v vs) h =
-        let parts = list_all_parts (piece_stands text) (argument_pieces v (phrase_pieces v)) (phrases_pieces vs) h in
-        and_from (phrase_stands text v) (phrases_stand text vs) (argument_is v parts.0) (phrases_are vs parts.1)
+    surfaces_are : (vs : SurfaceTermTrees) → pieces_stand text (surfaces_pieces vs) ≡ true → surfaces_stand text vs ≡ true
+    surfaces_are no_surfaces h = refl
+    surfaces_are (more_surfaces v vs) h =
+        let parts = list_all_parts (piece_stands text) (argument_pieces v (surface_pieces v)) (surfaces_pieces vs) h in
+        and_from (surface_stands text v) (surfaces_stand text vs) (argument_is v parts.0) (surfaces_are vs parts.1)
 
-    argument_is : (v : PhraseTree) → pieces_stand text (argument_pieces v (phrase_pieces v)) ≡ true → phrase_stands text v ≡ true
+    argument_is : (v : SurfaceTermTree) → pieces_stand text (argument_pieces v (surface_pieces v)) ≡ true → surface_stands text v ≡ true
     argument_is (bare n) h = (and_parts (name_stands text n) true h).0
-    argument_is (applied n no_phrases) h = and_from (name_stands text n) true (and_parts (name_stands text n) true h).0 refl
-    argument_is (applied n (more_phrases v vs)) h =
-        let inner = list_all_parts (piece_stands text) (phrase_pieces (applied n (more_phrases v vs))) (word (codes ")") ∷ []) h in
-        let parts = and_parts (name_stands text n) (pieces_stand text (phrases_pieces (more_phrases v vs))) inner.0 in
-        and_from (name_stands text n) (phrases_stand text (more_phrases v vs)) parts.0 (phrases_are (more_phrases v vs) parts.1)
+    argument_is (applied n no_surfaces) h = and_from (name_stands text n) true (and_parts (name_stands text n) true h).0 refl
+    argument_is (applied n (more_surfaces v vs)) h =
+        let inner = list_all_parts (piece_stands text) (surface_pieces (applied n (more_surfaces v vs))) (word (codes ")") ∷ []) h in
+        let parts = and_parts (name_stands text n) (pieces_stand text (surfaces_pieces (more_surfaces v vs))) inner.0 in
+        and_from (name_stands text n) (surfaces_stand text (more_surfaces v vs)) parts.0 (surfaces_are (more_surfaces v vs) parts.1)
 
-  within_is : (v : PhraseTree) → is_shallow v ≡ true → pieces_stand text (phrase_pieces v) ≡ true → is_phrase text v ≡ true
-  within_is v h k = and_from (phrase_stands text v) (is_shallow v) (phrase_is v k) h
+  within_is : (v : SurfaceTermTree) → is_shallow v ≡ true → pieces_stand text (surface_pieces v) ≡ true → is_surface text v ≡ true
+  within_is v h k = and_from (surface_stands text v) (is_shallow v) (surface_is v k) h
 
 -- ---- updates
 
 module _ (text : List ℕ) where
-  update_is : (s : Name) (t : PhraseTree) → is_shallow t ≡ true → pieces_stand text (update_pieces s t) ≡ true →
-      (name_stands text s && is_phrase text t) ≡ true
+  update_is : (s : Name) (t : SurfaceTermTree) → is_shallow t ≡ true → pieces_stand text (update_pieces s t) ≡ true →
+      (name_stands text s && is_surface text t) ≡ true
   update_is s t h k =
-      let parts = and_parts (name_stands text s) (pieces_stand text (phrase_pieces t ++ word (codes "]") ∷ [])) k in
-      let inner = list_all_parts (piece_stands text) (phrase_pieces t) (word (codes "]") ∷ []) parts.1 in
-      and_from (name_stands text s) (is_phrase text t) parts.0 (within_is text t h inner.0)
+      let parts = and_parts (name_stands text s) (pieces_stand text (surface_pieces t ++ word (codes "]") ∷ [])) k in
+      let inner = list_all_parts (piece_stands text) (surface_pieces t) (word (codes "]") ∷ []) parts.1 in
+      and_from (name_stands text s) (is_surface text t) parts.0 (within_is text t h inner.0)
 
   listed_is : (u : ListedLine) → listed_is_within u ≡ true → pieces_stand text (listed_pieces u) ≡ true → listed_line_stands text u ≡ true
   listed_is u h k =
@@ -159,7 +159,7 @@ module _ (text : List ℕ) where
   placed_is : (t : PlacedLine) → placed_is_within t ≡ true → pieces_stand text (placed_pieces t) ≡ true → placed_line_stands text t ≡ true
   placed_is t h k =
       within_is text t.test (and_parts (is_shallow t.test) (is_short t.step) h).0
-      (list_all_parts (piece_stands text) (phrase_pieces t.test) (word (codes " at ") ∷ word (decimal t.step) ∷ []) k).0
+      (list_all_parts (piece_stands text) (surface_pieces t.test) (word (codes " at ") ∷ word (decimal t.step) ∷ []) k).0
 
   left_is : (left : Option PlacedLine) → left_is_within left ≡ true → pieces_stand text (left_pieces left) ≡ true →
       left_line_stands text left ≡ true
@@ -190,7 +190,7 @@ module _ (text : List ℕ) where
   node_is : (n : NodeLine) → node_is_within n ≡ true → pieces_stand text (node_pieces n) ≡ true → node_line_stands text n ≡ true
   node_is (branch_line v a b) h k =
       within_is text v (and_parts (is_shallow v) (is_short a && is_short b) h).0
-      (list_all_parts (piece_stands text) (phrase_pieces v)
+      (list_all_parts (piece_stands text) (surface_pieces v)
       (word (codes " then ") ∷ word (decimal a) ∷ word (codes " else ") ∷ word (decimal b) ∷ []) k).0
   node_is (assignment_line us go) h k =
       many_stand text set_pieces (λ u. is_shallow u.term) (update_line_stands text) (λ u f g. update_is text u.signal u.term f g) us

@@ -10,8 +10,8 @@ use Rattle.tsl_text.specs.Lines.{has_bytes, is_line_byte, lines_from}
 use Rattle.tsl_text.proofs.LineLaws.{from_feed, cut_numbered}
 use Rattle.line_formats.specs.Machine.{read_from, or_wrong, where_ended}
 use Rattle.line_formats.proofs.MachineLaws.{read_is_text}
-use Rattle.program_listing.specs.declared.left.Misread.{Misread}
-use Rattle.program_listing.specs.declared.left.Misread.TheVariants.{Form, NoMemory}
+use Rattle.program_listing.specs.declared.rest.LineError.{LineError}
+use Rattle.program_listing.specs.declared.rest.LineError.TheVariants.{Form, NoMemory}
 use Rattle.program_listing.specs.declared.listing_reader.Stage.{Stage}
 use Rattle.program_listing.specs.declared.listing_reader.Stage.TheVariants.{Fresh, Going, Done}
 use Rattle.program_listing.specs.Listing.{IsListing}
@@ -148,6 +148,6 @@ listing_cut text s number bytes same nil e =
 
 -- the error of a line that cannot be read has its cause
 pub told : (text : List ℕ) (s : ListingState) (number : ℕ) (p : Place) → rest_of s number p.bytes ≡ rest_of start 1 text → s.at ≡ p.at →
-    has_bytes p.bytes ≡ true → (fault : Misread) → IsMisread (next_line s p) fault → HasListingFault text (error_at fault number)
+    has_bytes p.bytes ≡ true → (fault : LineError) → IsMisread (next_line s p) fault → HasListingFault text (error_at fault number)
 told text s number p same here some Form h = first_fault text number (sym same ∙ stuck s number p here some h)
 told text s number p same here some NoMemory h = tt

@@ -31,12 +31,12 @@ use Rattle.tsl_text.specs.declared.numbers.TheConstants.{MOST_DIGITS}
 use Rattle.tsl_terms.specs.WellFormed.{deepest}
 use Rattle.program_listing.specs.declared.listing.Name.{Name}
 use Rattle.program_listing.specs.ListingTree.{
-  PhraseTree,
+  SurfaceTermTree,
   bare,
   applied,
-  PhraseTrees,
-  no_phrases,
-  more_phrases,
+  SurfaceTermTrees,
+  no_surfaces,
+  more_surfaces,
   UpdateLine,
   ListedLine,
   PlacedLine,
@@ -72,38 +72,38 @@ Stand (named n ∷ pieces) p q =
 -- ---- terms and tests
 
 -- an argument that has arguments stands in brackets
-abbrev pub argument_pieces : PhraseTree → List Piece → List Piece
-argument_pieces (applied n (more_phrases p ps)) pieces = word (codes "(") ∷ (pieces ++ word (codes ")") ∷ [])
+abbrev pub argument_pieces : SurfaceTermTree → List Piece → List Piece
+argument_pieces (applied n (more_surfaces p ps)) pieces = word (codes "(") ∷ (pieces ++ word (codes ")") ∷ [])
 argument_pieces _ pieces = pieces
 
 -- what follows the name of a function or a predicate: `()` where there is no argument
-abbrev pub applied_pieces : PhraseTrees → List Piece → List Piece
-applied_pieces no_phrases pieces = word (codes "()") ∷ []
-applied_pieces (more_phrases p ps) pieces = pieces
+abbrev pub applied_pieces : SurfaceTermTrees → List Piece → List Piece
+applied_pieces no_surfaces pieces = word (codes "()") ∷ []
+applied_pieces (more_surfaces p ps) pieces = pieces
 
 abbrev mutual
-  pub phrase_pieces : PhraseTree → List Piece
-  phrase_pieces (bare n) = named n ∷ []
-  phrase_pieces (applied n arguments) = named n ∷ applied_pieces arguments (phrases_pieces arguments)
+  pub surface_pieces : SurfaceTermTree → List Piece
+  surface_pieces (bare n) = named n ∷ []
+  surface_pieces (applied n arguments) = named n ∷ applied_pieces arguments (surfaces_pieces arguments)
 
   -- a space and an argument, one after another
-  pub phrases_pieces : PhraseTrees → List Piece
-  phrases_pieces no_phrases = []
-  phrases_pieces (more_phrases p ps) = word (codes " ") ∷ (argument_pieces p (phrase_pieces p) ++ phrases_pieces ps)
+  pub surfaces_pieces : SurfaceTermTrees → List Piece
+  surfaces_pieces no_surfaces = []
+  surfaces_pieces (more_surfaces p ps) = word (codes " ") ∷ (argument_pieces p (surface_pieces p) ++ surfaces_pieces ps)
 
--- how deep the brackets of a phrase nest
-abbrev pub bracketed_phrase : PhraseTree → ℕ → ℕ
-bracketed_phrase (applied f (more_phrases p ps)) depth = 1 + depth
-bracketed_phrase _ depth = depth
+-- how deep the brackets of a surface term nest
+abbrev pub bracketed_surface : SurfaceTermTree → ℕ → ℕ
+bracketed_surface (applied f (more_surfaces p ps)) depth = 1 + depth
+bracketed_surface _ depth = depth
 
 abbrev mutual
-  pub phrase_brackets : PhraseTree → ℕ
-  phrase_brackets (bare name) = 0
-  phrase_brackets (applied name arguments) = phrases_brackets arguments
+  pub surface_brackets : SurfaceTermTree → ℕ
+  surface_brackets (bare name) = 0
+  surface_brackets (applied name arguments) = surfaces_brackets arguments
 
-  pub phrases_brackets : PhraseTrees → ℕ
-  phrases_brackets no_phrases = 0
-  phrases_brackets (more_phrases p ps) = max (bracketed_phrase p (phrase_brackets p)) (phrases_brackets ps)
+  pub surfaces_brackets : SurfaceTermTrees → ℕ
+  surfaces_brackets no_surfaces = 0
+  surfaces_brackets (more_surfaces p ps) = max (bracketed_surface p (surface_brackets p)) (surfaces_brackets ps)
 
 -- ---- lines
 
@@ -118,9 +118,9 @@ pub data LineTree : Type 0 where
   state : (number : ℕ) → (node : ℕ) → LineTree
   end_line : LineTree
 
-abbrev pub update_pieces : Name → PhraseTree → List Piece
+abbrev pub update_pieces : Name → SurfaceTermTree → List Piece
 update_pieces signal term =
-    word (codes "[") ∷ named signal ∷ word (codes " <- ") ∷ (phrase_pieces term ++ word (codes "]") ∷ [])
+    word (codes "[") ∷ named signal ∷ word (codes " <- ") ∷ (surface_pieces term ++ word (codes "]") ∷ [])
 
 -- an update of an assignment, a space before it
 abbrev pub set_pieces : UpdateLine → List Piece
@@ -132,7 +132,7 @@ listed_pieces u = word (codes " when ") ∷ (update_pieces u.signal u.term ++ wo
 
 -- a test and its step
 abbrev pub placed_pieces : PlacedLine → List Piece
-placed_pieces t = phrase_pieces t.test ++ word (codes " at ") ∷ word (decimal t.step) ∷ []
+placed_pieces t = surface_pieces t.test ++ word (codes " at ") ∷ word (decimal t.step) ∷ []
 
 -- an equality that a window lists
 abbrev pub equated_pieces : PlacedLine → List Piece
@@ -151,7 +151,7 @@ window_pieces w =
 -- a node's line after its number
 abbrev pub node_pieces : NodeLine → List Piece
 node_pieces (branch_line test then_node else_node) =
-    word (codes " if ") ∷ (phrase_pieces test
+    word (codes " if ") ∷ (surface_pieces test
     ++ word (codes " then ") ∷ word (decimal then_node) ∷ word (codes " else ") ∷ word (decimal else_node) ∷ [])
 node_pieces (assignment_line updates go) =
     word (codes " set") ∷ (flat_map set_pieces updates ++ word (codes " go ") ∷ word (decimal go) ∷ [])
@@ -176,8 +176,8 @@ abbrev pub is_short : ℕ → Bool
 is_short n = nat_lt n (10 ^ MOST_DIGITS)
 
 -- the brackets of a term or a test nest at most 200 deep
-abbrev pub is_shallow : PhraseTree → Bool
-is_shallow p = nat_le (phrase_brackets p) deepest
+abbrev pub is_shallow : SurfaceTermTree → Bool
+is_shallow p = nat_le (surface_brackets p) deepest
 
 abbrev pub listed_is_within : ListedLine → Bool
 listed_is_within u = is_shallow u.term && is_short u.offset

@@ -6,13 +6,13 @@ use Rattle.tsl_terms.specs.declared.names.NameKind.TheVariants.{Signal}
 use Rattle.tsl_terms.specs.Name.{AreDistinct, Name as NameEntry}
 use Rattle.program_listing.specs.declared.listing.Name.{Name}
 pub use Rattle.program_listing.specs.ListingTree.{
-  PhraseTree,
+  SurfaceTermTree,
   bare,
   applied,
-  PhraseTrees,
-  no_phrases,
-  more_phrases,
-  count_of_phrases,
+  SurfaceTermTrees,
+  no_surfaces,
+  more_surfaces,
+  count_of_surfaces,
   UpdateLine,
   ListedLine,
   PlacedLine,
@@ -22,8 +22,8 @@ pub use Rattle.program_listing.specs.ListingTree.{
   assignment_line,
   ListingTree,
   left_step,
-  phrase_tree,
-  phrase_trees,
+  surface_tree,
+  surface_trees,
   update_line,
   listed_line,
   placed_line,
@@ -31,7 +31,7 @@ pub use Rattle.program_listing.specs.ListingTree.{
   node_line,
   listing_tree,
 }
-pub use Rattle.program_listing.specs.LineText.{bracketed_phrase, phrase_brackets, phrases_brackets}
+pub use Rattle.program_listing.specs.LineText.{bracketed_surface, surface_brackets, surfaces_brackets}
 use Rattle.program_listing.specs.LineText.{Stand, listing_lines, ended_pieces, line_is_within}
 
 -- the bytes of a name

@@ -9,17 +9,17 @@
 //! The law `one_listing` says that a text has at most one listing.
 #![tactic(auto)]
 
-mod left;
 mod line;
 mod listing;
 mod listing_laws;
 mod listing_reader;
-mod phrases;
+mod rest;
+mod surfaces;
 mod words;
 
 pub use listing::{
-    Listing, ListingError, Name, Phrase, PhraseList, SpelledListed, SpelledNode, SpelledPlaced,
-    SpelledUpdate, SpelledWindow,
+    ListingError, Name, ProgramSyntax, SpelledListed, SpelledNode, SpelledPlaced, SpelledUpdate,
+    SpelledWindow, SurfaceTerm, SurfaceTermList,
 };
 pub use listing_laws::one_listing;
 pub use listing_reader::read_listing;

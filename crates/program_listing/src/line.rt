@@ -2,18 +2,18 @@
 
 ghost use Rattle.std.specs.Prelude.{◌≡◌, ◌∷◌, ◌++◌, codes, map, option_map, Some, None, IfOk, IfErr, IfSome, IfNone};
 ghost use Rattle.tsl_text.specs.Lines.{has_bytes};
-ghost use Rattle.program_listing.specs.ListingTree.{phrase_tree, update_line, listed_line, placed_line, window_line, node_line};
+ghost use Rattle.program_listing.specs.ListingTree.{surface_tree, update_line, listed_line, placed_line, window_line, node_line};
 ghost use Rattle.program_listing.specs.LineText.{head_line, input, cell, output, window, node, state, end_line};
 ghost use Rattle.program_listing.specs.internal.LineReading.{left_place, IsMisread, IsReadAs, IsUnread, past, prefixed, repeat, at_end};
-ghost use Rattle.program_listing.specs.internal.LineReading.{value_at_end, first_name, first_number, phrase, line_tree, update};
+ghost use Rattle.program_listing.specs.internal.LineReading.{value_at_end, first_name, first_number, surface, line_tree, update};
 ghost use Rattle.program_listing.specs.internal.LineReading.{update_follows, set_update, listed, listed_follows, placed, equated, left_side};
 ghost use Rattle.program_listing.specs.internal.LineReading.{window_rest, branch_rest, assignment_rest, node_rest, numbered_node, numbered_state, read_line};
 
-use crate::left::{Left, Misread, Reading};
 use crate::listing::{
-    Name, Phrase, SpelledListed, SpelledNode, SpelledPlaced, SpelledUpdate, SpelledWindow,
+    Name, SpelledListed, SpelledNode, SpelledPlaced, SpelledUpdate, SpelledWindow, SurfaceTerm,
 };
-use crate::phrases::phrase;
+use crate::rest::{LineError, Reading, Rest};
+use crate::surfaces::surface;
 use crate::words::{expect, first_name, first_number, past};
 use std::alloc::Global;
 
@@ -39,7 +39,7 @@ pub enum Line {
 }
 
 /// A number after these bytes.
-fn number_after<'a>(left: Left<'a>, word: &[u8]) -> Reading<'a, u64>
+fn number_after<'a>(left: Rest<'a>, word: &[u8]) -> Reading<'a, u64>
     ensures ok { IfOk result
         (IsReadAs (λ number. number) (prefixed word.now first_number) left.entry) }
     ensures wrong { IfErr result (IsUnread (prefixed word.now first_number) left.entry) }
@@ -49,7 +49,7 @@ fn number_after<'a>(left: Left<'a>, word: &[u8]) -> Reading<'a, u64>
 }
 
 /// A name after these bytes.
-fn name_after<'a>(left: Left<'a>, word: &[u8]) -> Reading<'a, Name>
+fn name_after<'a>(left: Rest<'a>, word: &[u8]) -> Reading<'a, Name>
     ensures ok { IfOk result (IsReadAs (λ name. name) (prefixed word.now first_name) left.entry) }
     ensures wrong { IfErr result (IsUnread (prefixed word.now first_name) left.entry) }
 {
@@ -58,21 +58,21 @@ fn name_after<'a>(left: Left<'a>, word: &[u8]) -> Reading<'a, Name>
 }
 
 /// A term or a test after these bytes.
-fn phrase_after<'a>(alloc: Global, left: Left<'a>, word: &[u8]) -> Reading<'a, Phrase>
-    ensures ok { IfOk result (IsReadAs phrase_tree (prefixed word.now phrase) left.entry) }
-    ensures wrong { IfErr result (IsUnread (prefixed word.now phrase) left.entry) }
+fn surface_after<'a>(alloc: Global, left: Rest<'a>, word: &[u8]) -> Reading<'a, SurfaceTerm>
+    ensures ok { IfOk result (IsReadAs surface_tree (prefixed word.now surface) left.entry) }
+    ensures wrong { IfErr result (IsUnread (prefixed word.now surface) left.entry) }
 {
     let rest = expect(left, word)?;
-    phrase(alloc, rest)
+    surface(alloc, rest)
 }
 
 /// `[NAME <- TERM]`, a name and a term.
-fn update(alloc: Global, left: Left<'_>) -> Reading<'_, (Name, Phrase)>
-    ensures ok { IfOk result (IsReadAs (λ u. (u.0, phrase_tree u.1)) update left.entry) }
+fn update(alloc: Global, left: Rest<'_>) -> Reading<'_, (Name, SurfaceTerm)>
+    ensures ok { IfOk result (IsReadAs (λ u. (u.0, surface_tree u.1)) update left.entry) }
     ensures wrong { IfErr result (IsUnread update left.entry) }
 {
     let (signal, rest) = name_after(left, b"[")?;
-    let (term, rest) = phrase_after(alloc, rest, b" <- ")?;
+    let (term, rest) = surface_after(alloc, rest, b" <- ")?;
     let rest = expect(rest, b"]")?;
     Ok(((signal, term), rest))
 }
@@ -85,7 +85,7 @@ fn update_follows(bytes: &[u8]) -> bool
 }
 
 /// An update of an assignment, a space before it.
-fn set_update(alloc: Global, left: Left<'_>) -> Reading<'_, SpelledUpdate>
+fn set_update(alloc: Global, left: Rest<'_>) -> Reading<'_, SpelledUpdate>
     ensures ok { IfOk result (IsReadAs update_line set_update left.entry) }
     ensures wrong { IfErr result (IsUnread set_update left.entry) }
 {
@@ -95,7 +95,7 @@ fn set_update(alloc: Global, left: Left<'_>) -> Reading<'_, SpelledUpdate>
 }
 
 /// The updates of an assignment, which may be none.
-fn set_updates(alloc: Global, left: Left<'_>) -> Reading<'_, Vec<SpelledUpdate>>
+fn set_updates(alloc: Global, left: Rest<'_>) -> Reading<'_, Vec<SpelledUpdate>>
     ensures ok { IfOk result
         (IsReadAs (λ us. map update_line us.items) (repeat update_follows set_update) left.entry) }
     ensures wrong { IfErr result (IsUnread (repeat update_follows set_update) left.entry) }
@@ -111,7 +111,7 @@ fn set_updates(alloc: Global, left: Left<'_>) -> Reading<'_, Vec<SpelledUpdate>>
 }
 
 /// An update that a window lists.
-fn listed(alloc: Global, left: Left<'_>) -> Reading<'_, SpelledListed>
+fn listed(alloc: Global, left: Rest<'_>) -> Reading<'_, SpelledListed>
     ensures ok { IfOk result (IsReadAs listed_line listed left.entry) }
     ensures wrong { IfErr result (IsUnread listed left.entry) }
 {
@@ -136,7 +136,7 @@ fn listed_follows(bytes: &[u8]) -> bool
 }
 
 /// The updates that a window lists, which may be none.
-fn listed_updates(alloc: Global, left: Left<'_>) -> Reading<'_, Vec<SpelledListed>>
+fn listed_updates(alloc: Global, left: Rest<'_>) -> Reading<'_, Vec<SpelledListed>>
     ensures ok { IfOk result
         (IsReadAs (λ us. map listed_line us.items) (repeat listed_follows listed) left.entry) }
     ensures wrong { IfErr result (IsUnread (repeat listed_follows listed) left.entry) }
@@ -159,17 +159,17 @@ pub fn has_bytes(bytes: &[u8]) -> bool
 }
 
 /// A test and its step.
-fn placed(alloc: Global, left: Left<'_>) -> Reading<'_, SpelledPlaced>
+fn placed(alloc: Global, left: Rest<'_>) -> Reading<'_, SpelledPlaced>
     ensures ok { IfOk result (IsReadAs placed_line placed left.entry) }
     ensures wrong { IfErr result (IsUnread placed left.entry) }
 {
-    let (test, rest) = phrase(alloc, left)?;
+    let (test, rest) = surface(alloc, left)?;
     let (step, rest) = number_after(rest, b" at ")?;
     Ok((SpelledPlaced { test, step }, rest))
 }
 
 /// An equality that a window lists.
-fn equated(alloc: Global, left: Left<'_>) -> Reading<'_, SpelledPlaced>
+fn equated(alloc: Global, left: Rest<'_>) -> Reading<'_, SpelledPlaced>
     ensures ok { IfOk result (IsReadAs placed_line equated left.entry) }
     ensures wrong { IfErr result (IsUnread equated left.entry) }
 {
@@ -178,7 +178,7 @@ fn equated(alloc: Global, left: Left<'_>) -> Reading<'_, SpelledPlaced>
 }
 
 /// The equalities that a window lists, to the end of its line.
-fn listed_equalities(alloc: Global, left: Left<'_>) -> Reading<'_, Vec<SpelledPlaced>>
+fn listed_equalities(alloc: Global, left: Rest<'_>) -> Reading<'_, Vec<SpelledPlaced>>
     ensures ok { IfOk result
         (IsReadAs (λ es. map placed_line es.items) (repeat has_bytes equated) left.entry) }
     ensures wrong { IfErr result (IsUnread (repeat has_bytes equated) left.entry) }
@@ -194,7 +194,7 @@ fn listed_equalities(alloc: Global, left: Left<'_>) -> Reading<'_, Vec<SpelledPl
 }
 
 /// What stands before a window's right test: `true`, or the left test and its step.
-fn left_side(alloc: Global, left: Left<'_>) -> Reading<'_, Option<SpelledPlaced>>
+fn left_side(alloc: Global, left: Rest<'_>) -> Reading<'_, Option<SpelledPlaced>>
     ensures ok { IfOk result (IsReadAs (option_map placed_line) left_side left.entry) }
     ensures wrong { IfErr result (IsUnread left_side left.entry) }
 {
@@ -207,7 +207,7 @@ fn left_side(alloc: Global, left: Left<'_>) -> Reading<'_, Option<SpelledPlaced>
 }
 
 /// A window after its first word.
-fn window(alloc: Global, left: Left<'_>) -> Reading<'_, SpelledWindow>
+fn window(alloc: Global, left: Rest<'_>) -> Reading<'_, SpelledWindow>
     ensures ok { IfOk result (IsReadAs window_line window_rest left.entry) }
     ensures wrong { IfErr result (IsUnread window_rest left.entry) }
 {
@@ -227,11 +227,11 @@ fn window(alloc: Global, left: Left<'_>) -> Reading<'_, SpelledWindow>
 }
 
 /// A node that tests, after its ` if `.
-fn branch(alloc: Global, left: Left<'_>) -> Reading<'_, SpelledNode>
+fn branch(alloc: Global, left: Rest<'_>) -> Reading<'_, SpelledNode>
     ensures ok { IfOk result (IsReadAs node_line branch_rest left.entry) }
     ensures wrong { IfErr result (IsUnread branch_rest left.entry) }
 {
-    let (test, rest) = phrase(alloc, left)?;
+    let (test, rest) = surface(alloc, left)?;
     let (then_node, rest) = number_after(rest, b" then ")?;
     let (else_node, rest) = number_after(rest, b" else ")?;
     Ok((
@@ -245,7 +245,7 @@ fn branch(alloc: Global, left: Left<'_>) -> Reading<'_, SpelledNode>
 }
 
 /// A node that assigns, after its ` set`.
-fn assignment(alloc: Global, left: Left<'_>) -> Reading<'_, SpelledNode>
+fn assignment(alloc: Global, left: Rest<'_>) -> Reading<'_, SpelledNode>
     ensures ok { IfOk result (IsReadAs node_line assignment_rest left.entry) }
     ensures wrong { IfErr result (IsUnread assignment_rest left.entry) }
 {
@@ -255,7 +255,7 @@ fn assignment(alloc: Global, left: Left<'_>) -> Reading<'_, SpelledNode>
 }
 
 /// A node after its number.
-fn node(alloc: Global, left: Left<'_>) -> Reading<'_, SpelledNode>
+fn node(alloc: Global, left: Rest<'_>) -> Reading<'_, SpelledNode>
     ensures ok { IfOk result (IsReadAs node_line node_rest left.entry) }
     ensures wrong { IfErr result (IsUnread node_rest left.entry) }
 {
@@ -267,7 +267,7 @@ fn node(alloc: Global, left: Left<'_>) -> Reading<'_, SpelledNode>
 }
 
 /// A node with its number, to the end of its line.
-fn numbered_node(alloc: Global, left: Left<'_>) -> Result<(u64, SpelledNode), Misread>
+fn numbered_node(alloc: Global, left: Rest<'_>) -> Result<(u64, SpelledNode), LineError>
     ensures ok { IfOk result (λ read.
         at_end (numbered_node (left_place left.entry)) ≡ Some (read.0, node_line read.1)) }
     ensures wrong { IfErr result (IsMisread (at_end (numbered_node (left_place left.entry)))) }
@@ -275,13 +275,13 @@ fn numbered_node(alloc: Global, left: Left<'_>) -> Result<(u64, SpelledNode), Mi
     let (number, rest) = first_number(left)?;
     let (node, rest) = node(alloc, rest)?;
     if has_bytes(rest.bytes) {
-        return Err(Misread::Form);
+        return Err(LineError::Form);
     }
     Ok((number, node))
 }
 
 /// A state with its number, to the end of its line.
-fn numbered_state(left: Left<'_>) -> Result<(u64, u64), Misread>
+fn numbered_state(left: Rest<'_>) -> Result<(u64, u64), LineError>
     ensures ok { IfOk result (λ read.
         at_end (numbered_state (left_place left.entry)) ≡ Some (read.0, read.1)) }
     ensures wrong { IfErr result (IsMisread (at_end (numbered_state (left_place left.entry)))) }
@@ -289,51 +289,51 @@ fn numbered_state(left: Left<'_>) -> Result<(u64, u64), Misread>
     let (number, rest) = first_number(left)?;
     let (node, rest) = number_after(rest, b" at ")?;
     if has_bytes(rest.bytes) {
-        return Err(Misread::Form);
+        return Err(LineError::Form);
     }
     Ok((number, node))
 }
 
 /// A window after its first word, to the end of its line.
-fn whole_window(alloc: Global, left: Left<'_>) -> Result<SpelledWindow, Misread>
+fn whole_window(alloc: Global, left: Rest<'_>) -> Result<SpelledWindow, LineError>
     ensures ok { IfOk result (λ read.
         at_end (window_rest (left_place left.entry)) ≡ Some (window_line read)) }
     ensures wrong { IfErr result (IsMisread (at_end (window_rest (left_place left.entry)))) }
 {
     let (window, rest) = window(alloc, left)?;
     if has_bytes(rest.bytes) {
-        return Err(Misread::Form);
+        return Err(LineError::Form);
     }
     Ok(window)
 }
 
 /// A name, to the end of its line.
-fn whole_name(left: Left<'_>) -> Result<Name, Misread>
+fn whole_name(left: Rest<'_>) -> Result<Name, LineError>
     ensures ok { IfOk result (λ name. at_end (first_name (left_place left.entry)) ≡ Some name) }
     ensures wrong { IfErr result (IsMisread (at_end (first_name (left_place left.entry)))) }
 {
     let (name, rest) = first_name(left)?;
     if has_bytes(rest.bytes) {
-        return Err(Misread::Form);
+        return Err(LineError::Form);
     }
     Ok(name)
 }
 
 /// The line, where nothing is left of it.
-fn whole(line: Line, left: Left<'_>) -> Result<Line, Misread>
+fn whole(line: Line, left: Rest<'_>) -> Result<Line, LineError>
     ensures ok { IfOk result (λ read.
         value_at_end (line_tree line) (left_place left.entry).bytes ≡ Some (line_tree read)) }
     ensures wrong { IfErr result
         (IsMisread (value_at_end (line_tree line) (left_place left.entry).bytes)) }
 {
     if has_bytes(left.bytes) {
-        return Err(Misread::Form);
+        return Err(LineError::Form);
     }
     Ok(line)
 }
 
 /// The line that the bytes are, without their line feed.
-pub fn read_line(alloc: Global, left: Left<'_>) -> Result<Line, Misread>
+pub fn read_line(alloc: Global, left: Rest<'_>) -> Result<Line, LineError>
     ensures ok { IfOk result (λ line. read_line (left_place left.entry) ≡ Some (line_tree line)) }
     ensures wrong { IfErr result (IsMisread (read_line (left_place left.entry))) }
 {

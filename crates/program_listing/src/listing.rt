@@ -2,8 +2,8 @@
 //! asked.
 
 ghost use Rattle.std.specs.Prelude.{◌≡◌, map, IfOk};
-ghost use Rattle.program_listing.specs.ListingTree.{phrase_tree, phrase_trees, window_line, left_step, listing_tree, empty_listing};
-ghost use Rattle.program_listing.specs.internal.LineReading.{phrases_of};
+ghost use Rattle.program_listing.specs.ListingTree.{surface_tree, surface_trees, window_line, left_step, listing_tree, empty_listing};
+ghost use Rattle.program_listing.specs.internal.LineReading.{surfaces_of};
 
 use sequence::NoMemory;
 use std::alloc::{AllocFailed, Global};
@@ -18,47 +18,50 @@ pub struct Name {
 }
 
 /// A term or a test: a name alone, or a name with its arguments, which may be none.
-#[cycle(phrases)]
+#[cycle(surfaces)]
 #[derive(Debug, Drop)]
-pub enum Phrase {
+pub enum SurfaceTerm {
     /// A name alone.
     Bare(Name),
     /// A name and its arguments.
-    Applied(Name, PhraseList),
+    Applied(Name, SurfaceTermList),
 }
 
-/// A list of phrases, in order.
-#[cycle(phrases)]
+/// A list of surface terms, in order.
+#[cycle(surfaces)]
 #[derive(Debug)]
-pub enum PhraseList {
-    /// No phrase.
+pub enum SurfaceTermList {
+    /// No surface term.
     Empty,
-    /// A first phrase and those after it.
-    More(Box<Phrase>, Box<PhraseList>),
+    /// A first surface term and those after it.
+    More(Box<SurfaceTerm>, Box<SurfaceTermList>),
 }
 
-impl Drop for PhraseList {
-    #[cycle(phrases)]
+impl Drop for SurfaceTermList {
+    #[cycle(surfaces)]
     fn drop(mut self) {
         loop {
             match self {
-                PhraseList::Empty => return,
-                PhraseList::More(_, rest) => self = Box::into_inner(rest),
+                SurfaceTermList::Empty => return,
+                SurfaceTermList::More(_, rest) => self = Box::into_inner(rest),
             }
         }
     }
 }
 
-impl PhraseList {
-    /// The list of these phrases, in their order. An `Err` says that memory ran out.
-    #[tactic(auto, using(crate::proofs::PhraseLists::phrases_in_front, crate::proofs::PhraseLists::phrase_pushed))]
-    pub fn from_vec(alloc: Global, mut phrases: Vec<Phrase>) -> Result<PhraseList, NoMemory>
+impl SurfaceTermList {
+    /// The list of these surface terms, in their order. An `Err` says that memory ran out.
+    #[tactic(auto, using(crate::proofs::SurfaceTermLists::surfaces_in_front, crate::proofs::SurfaceTermLists::surface_pushed))]
+    pub fn from_vec(
+        alloc: Global,
+        mut surfaces: Vec<SurfaceTerm>,
+    ) -> Result<SurfaceTermList, NoMemory>
         ensures { IfOk result (λ list.
-            phrase_trees list ≡ phrases_of (map phrase_tree phrases.items)) }
+            surface_trees list ≡ surfaces_of (map surface_tree surfaces.items)) }
     {
-        let mut list = PhraseList::Empty;
-        while let Some(phrase) = phrases.pop() {
-            list = PhraseList::More(Box::new(alloc, phrase)?, Box::new(alloc, list)?);
+        let mut list = SurfaceTermList::Empty;
+        while let Some(surface) = surfaces.pop() {
+            list = SurfaceTermList::More(Box::new(alloc, surface)?, Box::new(alloc, list)?);
         }
         Ok(list)
     }
@@ -70,7 +73,7 @@ pub struct SpelledUpdate {
     /// What is updated.
     pub signal: Name,
     /// The term that it takes.
-    pub term: Phrase,
+    pub term: SurfaceTerm,
 }
 
 /// An update that a window lists.
@@ -79,7 +82,7 @@ pub struct SpelledListed {
     /// What is updated.
     pub signal: Name,
     /// The term that it takes.
-    pub term: Phrase,
+    pub term: SurfaceTerm,
     /// At which step.
     pub offset: u64,
 }
@@ -88,7 +91,7 @@ pub struct SpelledListed {
 #[derive(Debug, Drop)]
 pub struct SpelledPlaced {
     /// The test.
-    pub test: Phrase,
+    pub test: SurfaceTerm,
     /// At which step.
     pub step: u64,
 }
@@ -124,7 +127,7 @@ pub enum SpelledNode {
     /// `if TEST then A else B`
     Branch {
         /// The test.
-        test: Phrase,
+        test: SurfaceTerm,
         /// A.
         then_node: u64,
         /// B.
@@ -141,7 +144,7 @@ pub enum SpelledNode {
 
 /// The lines of a program text, each kind in its order.
 #[derive(Debug, Drop)]
-pub struct Listing {
+pub struct ProgramSyntax {
     /// The names of the inputs.
     pub inputs: Vec<Name>,
     /// The names of the cells.
@@ -156,12 +159,12 @@ pub struct Listing {
     pub states: Vec<u64>,
 }
 
-impl Listing {
+impl ProgramSyntax {
     /// The listing without lines.
-    pub fn new(alloc: Global) -> Listing
+    pub fn new(alloc: Global) -> ProgramSyntax
         ensures { listing_tree result ≡ empty_listing }
     {
-        Listing {
+        ProgramSyntax {
             inputs: Vec::new(alloc),
             cells: Vec::new(alloc),
             outputs: Vec::new(alloc),

@@ -13,9 +13,9 @@ ghost use Rattle.program_listing.specs.internal.LineOrder.{fresh, is_done, no_no
 ghost use Rattle.program_listing.specs.internal.LineOrder.{entry_in, entries_in, are_new, cut, next_line, progress_of, state_of, error_at};
 ghost use Rattle.program_listing.specs.internal.LineOrder.{DeclaresIn, LiesIn, IsRepeated};
 
-use crate::left::{Left, Misread};
 use crate::line::{Line, has_bytes, read_line};
-use crate::listing::{Listing, ListingError, Name};
+use crate::listing::{ListingError, Name, ProgramSyntax};
+use crate::rest::{LineError, Rest};
 use crate::words::skip;
 use sequence::NoMemory;
 use std::alloc::Global;
@@ -36,22 +36,22 @@ pub enum Stage {
 #[derive(Drop)]
 pub struct Begun {
     /// The lines so far.
-    pub listing: Listing,
+    pub listing: ProgramSyntax,
     /// How far the text was read.
     pub stage: Stage,
 }
 
 /// What is left before any line was read.
-fn start_of(text: &[u8]) -> Left<'_>
+fn start_of(text: &[u8]) -> Rest<'_>
     requires { length text.now < 2 ^ 32 }
     ensures { left_place result ≡ record { at = 0; bytes = text.now } }
 {
-    Left { at: 0, bytes: text }
+    Rest { at: 0, bytes: text }
 }
 
 /// The first line that is left, without its line feed, and what is left after it. `None` where no
 /// line feed is left.
-fn cut(left: Left<'_>) -> Option<(Left<'_>, Left<'_>)>
+fn cut(left: Rest<'_>) -> Option<(Rest<'_>, Rest<'_>)>
     ensures some { IfSome result (λ parts.
         cut (left_place left.entry) ≡ Some (left_place parts.0, left_place parts.1)) }
     ensures none { IfNone result (cut (left_place left.entry) ≡ None) }
@@ -60,7 +60,7 @@ fn cut(left: Left<'_>) -> Option<(Left<'_>, Left<'_>)>
     if len >= left.bytes.len() {
         return None;
     }
-    let line = Left {
+    let line = Rest {
         at: left.at,
         bytes: &left.bytes[..len],
     };
@@ -76,35 +76,35 @@ fn line_len(bytes: &[u8]) -> usize
 }
 
 /// Whether neither a node nor a state stands yet.
-fn no_node(listing: &Listing) -> bool
+fn no_node(listing: &ProgramSyntax) -> bool
     ensures { result ≡ no_node (listing_tree listing.now) }
 {
     listing.nodes.is_empty() && listing.states.is_empty()
 }
 
 /// Whether no window stands yet, and nothing after the windows.
-fn no_window(listing: &Listing) -> bool
+fn no_window(listing: &ProgramSyntax) -> bool
     ensures { result ≡ no_window (listing_tree listing.now) }
 {
     listing.windows.is_empty() && no_node(listing)
 }
 
 /// Whether no output stands yet, and nothing after the outputs.
-fn no_output(listing: &Listing) -> bool
+fn no_output(listing: &ProgramSyntax) -> bool
     ensures { result ≡ no_output (listing_tree listing.now) }
 {
     listing.outputs.is_empty() && no_window(listing)
 }
 
 /// Whether no cell stands yet, and nothing after the cells.
-fn no_cell(listing: &Listing) -> bool
+fn no_cell(listing: &ProgramSyntax) -> bool
     ensures { result ≡ no_cell (listing_tree listing.now) }
 {
     listing.cells.is_empty() && no_output(listing)
 }
 
 /// Whether the line may stand next between the head and the last line.
-fn may_stand(listing: &Listing, line: &Line) -> bool
+fn may_stand(listing: &ProgramSyntax, line: &Line) -> bool
     ensures { result ≡ may_stand (listing_tree listing.now) (line_tree line.now) }
 {
     match line {
@@ -177,9 +177,9 @@ fn declared_name(line: &Line) -> Option<Name>
 }
 
 /// Adds the name that the line at this place declares to those that were declared before.
-fn declare(names: &mut Names, place: Left<'_>, line: &Line) -> Result<(), Misread>
+fn declare(names: &mut Names, place: Rest<'_>, line: &Line) -> Result<(), LineError>
     requires within { DeclaresIn (left_place place) (line_tree line.now) }
-    requires room { length names.old + 1 < 2 ^ 32 }
+    requires levels_left { length names.old + 1 < 2 ^ 32 }
     ensures new { OnOk result
         (are_new names.old (entries_in (left_place place.entry) (line_tree line.now)) ≡ true) }
     ensures added { OnOk result
@@ -198,15 +198,15 @@ fn declare(names: &mut Names, place: Left<'_>, line: &Line) -> Result<(), Misrea
 }
 
 /// Adds a signal to the names, if it is none of them.
-fn declare_name(names: &mut Names, text: &[u8]) -> Result<(), Misread>
-    requires room { length names.old + 1 < 2 ^ 32 }
+fn declare_name(names: &mut Names, text: &[u8]) -> Result<(), LineError>
+    requires levels_left { length names.old + 1 < 2 ^ 32 }
     ensures new { OnOk result (is_none (number_of names.old text.now) ≡ true) }
     ensures added { OnOk result (names.new
         ≡ names.old ++ (record { text = text.now; kind = NameKind.Signal; arity = 0 }) ∷ []) }
     ensures again { IfErr result (IsRepeated (is_none (number_of names.old text.now))) }
 {
     if names.find(text).is_some() {
-        return Err(Misread::Form);
+        return Err(LineError::Form);
     }
     names.add(text, NameKind::Signal, 0)?;
     Ok(())
@@ -215,11 +215,11 @@ fn declare_name(names: &mut Names, text: &[u8]) -> Result<(), Misread>
 /// Reads the next line, and answers what is left after it.
 fn next_line<'a>(
     alloc: Global,
-    left: Left<'a>,
+    left: Rest<'a>,
     begun: &mut Begun,
     names: &mut Names,
-) -> Result<Left<'a>, Misread>
-    requires room { length names.old + 1 < 2 ^ 32 }
+) -> Result<Rest<'a>, LineError>
+    requires levels_left { length names.old + 1 < 2 ^ 32 }
     requires empty { progress_of begun.old ≡ fresh →
         listing_tree begun.old.listing ≡ empty_listing }
     ensures later { IfOk result (λ later. IfSome (cut (left_place left.entry)) (λ parts.
@@ -232,11 +232,11 @@ fn next_line<'a>(
         (next_line (state_of left.entry.at begun.old names.old) (left_place left.entry))) }
 {
     let Some((line, later)) = cut(left) else {
-        return Err(Misread::Form);
+        return Err(LineError::Form);
     };
     let read = read_line(alloc, line)?;
     if !may_come(begun, &read) {
-        return Err(Misread::Form);
+        return Err(LineError::Form);
     }
     declare(names, line, &read)?;
     insert(begun, read)?;
@@ -244,24 +244,24 @@ fn next_line<'a>(
 }
 
 /// The error of a line.
-fn at_line(fault: Misread, number: u32) -> ListingError
+fn at_line(fault: LineError, number: u32) -> ListingError
     ensures { result ≡ error_at fault number }
 {
     match fault {
-        Misread::Form => ListingError::Form(number),
-        Misread::NoMemory => ListingError::NoMemory,
+        LineError::Form => ListingError::Form(number),
+        LineError::NoMemory => ListingError::NoMemory,
     }
 }
 
 /// The listing of a text. An `Err` tells the first line at fault, or that memory ran out.
-pub fn read_listing(alloc: Global, text: &[u8]) -> Result<Listing, ListingError>
+pub fn read_listing(alloc: Global, text: &[u8]) -> Result<ProgramSyntax, ListingError>
     requires { length text.now < 2 ^ 32 }
     ensures ok { IfOk result (λ listing. IsListing text.now (listing_tree listing)) }
     ensures fault { IfErr result (HasListingFault text.now) }
 {
     let mut left = start_of(text);
     let mut begun = Begun {
-        listing: Listing::new(alloc),
+        listing: ProgramSyntax::new(alloc),
         stage: Stage::Fresh,
     };
     let mut names = Names::new(alloc);

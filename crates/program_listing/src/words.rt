@@ -8,27 +8,27 @@ ghost use Rattle.tsl_text.specs.Names.{is_name_start, is_name_byte, is_name_text
 ghost use Rattle.program_listing.specs.internal.LineReading.{left_place, skipped, past, first_name, first_number};
 ghost use Rattle.program_listing.specs.internal.LineReading.{IsReadAs, IsUnread, IsMisread, long_words, letters};
 
-use crate::left::{Left, Misread, Reading};
 use crate::listing::Name;
+use crate::rest::{LineError, Reading, Rest};
 use tsl_text::plain_number_in;
 
 /// What is left after so many bytes.
-pub fn skip(left: Left<'_>, len: usize) -> Left<'_>
+pub fn skip(left: Rest<'_>, len: usize) -> Rest<'_>
     requires { len ≤ length left.bytes.now }
     ensures { left_place result ≡ skipped len (left_place left.entry) }
 {
-    Left {
+    Rest {
         at: left.at + len as u32,
         bytes: &left.bytes[len..],
     }
 }
 
 /// What is left past these bytes, where they stand at the front.
-pub fn past<'a>(left: Left<'a>, word: &[u8]) -> Option<Left<'a>>
+pub fn past<'a>(left: Rest<'a>, word: &[u8]) -> Option<Rest<'a>>
     ensures { option_map left_place result ≡ past word.now (left_place left.entry) }
 {
     match left.bytes.strip_prefix(word) {
-        Some(bytes) => Some(Left {
+        Some(bytes) => Some(Rest {
             at: left.at + word.len() as u32,
             bytes,
         }),
@@ -37,25 +37,25 @@ pub fn past<'a>(left: Left<'a>, word: &[u8]) -> Option<Left<'a>>
 }
 
 /// What is left past these bytes, which have to stand at the front.
-pub fn expect<'a>(left: Left<'a>, word: &[u8]) -> Result<Left<'a>, Misread>
+pub fn expect<'a>(left: Rest<'a>, word: &[u8]) -> Result<Rest<'a>, LineError>
     ensures ok { IfOk result (λ later.
         past word.now (left_place left.entry) ≡ Some (left_place later)) }
     ensures wrong { IfErr result (IsMisread (past word.now (left_place left.entry))) }
 {
     match past(left, word) {
         Some(later) => Ok(later),
-        None => Err(Misread::Form),
+        None => Err(LineError::Form),
     }
 }
 
 /// The longest name at the front, if it is no reserved word.
-pub fn first_name(left: Left<'_>) -> Reading<'_, Name>
+pub fn first_name(left: Rest<'_>) -> Reading<'_, Name>
     ensures ok { IfOk result (IsReadAs (λ name. name) first_name left.entry) }
     ensures wrong { IfErr result (IsUnread first_name left.entry) }
 {
     let len = name_len(left.bytes);
     if !is_usable(&left.bytes[..len]) {
-        return Err(Misread::Form);
+        return Err(LineError::Form);
     }
     let name = Name {
         start: left.at,
@@ -65,14 +65,14 @@ pub fn first_name(left: Left<'_>) -> Reading<'_, Name>
 }
 
 /// The longest number at the front, without leading zeros and with at most 18 digits.
-pub fn first_number(left: Left<'_>) -> Reading<'_, u64>
+pub fn first_number(left: Rest<'_>) -> Reading<'_, u64>
     ensures ok { IfOk result (IsReadAs (λ number. number) first_number left.entry) }
     ensures wrong { IfErr result (IsUnread first_number left.entry) }
 {
     let len = number_len(left.bytes);
     match plain_number_in(&left.bytes[..len]) {
         Some(number) => Ok((number, skip(left, len))),
-        None => Err(Misread::Form),
+        None => Err(LineError::Form),
     }
 }
 

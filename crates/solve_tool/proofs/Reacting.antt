@@ -2,7 +2,7 @@
 use Rattle.std.proofs.Common.{◌≡◌, ◌≢◌, ℕ, ◌+◌, ◌≤◌, Bool, true, false, List, [], ◌++◌, length, refl, ap, sym, ◌∙◌, subst, arith, length-append}
 use Rattle.std.specs.Prelude.{Option, Some, None, Result, Ok, Err, IfOk, cond, codes}
 use Rattle.tsl_io.specs.Told.{before, TakesFirst, WhereTold}
-use Rattle.tsl_io.specs.Effects.{Effect, HasFailed, NeverFailed, IsUntouched, IsWhole, IsCutOff, AreTold}
+use Rattle.tsl_io.specs.Effects.{Effect, HasFailed, NeverFailed, IsUntouched, IsWhole, IsCutOff, ContentsAre}
 use Rattle.tsl_io.proofs.Effects.{some_bytes, more_bytes}
 use Rattle.tsl_io.proofs.Handed.{whole_kept}
 use Rattle.clause_core.specs.Literals.{Lit}
@@ -193,7 +193,7 @@ record IsSolutionOf (words : List (List ℕ)) (told : Option (List ℕ)) (status
   request : Request
   asked : request_of words ≡ Some request
   bytes : List ℕ
-  are_told : AreTold told bytes
+  are_told : ContentsAre told bytes
   variables : ℕ
   clauses : List (List Lit)
   spelled : cnf_answer bytes ≡ is_cnf variables clauses

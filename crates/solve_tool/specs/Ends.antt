@@ -1,6 +1,6 @@
 -- How a run ends: its status, whether the source failed, and what stands in the sinks.
 use Rattle.std.specs.Prelude.{◌≡◌, ℕ, List, cond}
-use Rattle.tsl_io.specs.Effects.{Effect, HasFailed, NeverFailed, IsUntouched, IsWhole, IsCutOff, AreTold}
+use Rattle.tsl_io.specs.Effects.{Effect, HasFailed, NeverFailed, IsUntouched, IsWhole, IsCutOff, ContentsAre}
 use Rattle.solve_tool.specs.declared.status.Status.{Status}
 use Rattle.solve_tool.specs.declared.status.Status.TheVariants.{Satisfiable, Unsatisfiable, Unknown, Usage, Reading, Large}
 use Rattle.solve_tool.specs.declared.status.Status.TheVariants.{ReadFault, WriteFault, Memory}
@@ -24,7 +24,7 @@ HasFailedFor _ source = NeverFailed source
 -- where it tells nothing.
 pub record IsSolverReply (words : List (List ℕ)) (source : Effect) (reply : Reply) : Type 0 where
   pub bytes : List ℕ
-  pub told : AreTold source.old bytes
+  pub told : ContentsAre source.old bytes
   pub outcome : SolverOutcome words bytes reply
   pub count : HasFailedFor reply.status source
 

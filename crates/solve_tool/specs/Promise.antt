@@ -3,7 +3,7 @@ use Rattle.std.specs.Prelude.{◌≡◌, ℕ, List, Some}
 use Rattle.clause_core.specs.Literals.{Lit}
 use Rattle.cnf_reader.specs.CnfText.{is_cnf, cnf_answer}
 use Rattle.tsl_io.specs.Told.{with_added}
-use Rattle.tsl_io.specs.Effects.{Effect, AreTold}
+use Rattle.tsl_io.specs.Effects.{Effect, ContentsAre}
 use Rattle.solve_tool.specs.declared.status.Status.{Status}
 use Rattle.solve_tool.specs.declared.request.Request.{Request}
 use Rattle.solve_tool.specs.Requests.{request_of}
@@ -14,7 +14,7 @@ pub record IsSolved (words : List (List ℕ)) (source out : Effect) (result : St
   pub request : Request
   pub asked : request_of words ≡ Some request
   pub bytes : List ℕ
-  pub told : AreTold source.old bytes
+  pub told : ContentsAre source.old bytes
   pub variables : ℕ
   pub clauses : List (List Lit)
   pub spelled : cnf_answer bytes ≡ is_cnf variables clauses

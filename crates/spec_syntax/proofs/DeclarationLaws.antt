@@ -19,95 +19,95 @@ use Rattle.spec_syntax.proofs.ExactDeclarations.{before_any, IsDeclaration, decl
 
 -- ---- one reading
 
-pub one_list : (room : ℕ) (xs own other : List Terminal) (a b : List Declaration) → AreDeclarations room xs own a → AreDeclarations room xs other b →
+pub one_list : (levels_left : ℕ) (xs own other : List Terminal) (a b : List Declaration) → AreDeclarations levels_left xs own a → AreDeclarations levels_left xs other b →
     a ≡ b
-one_list room xs own other a b h k = one_value (declarations_exact room) xs a b (own, h) (other, k)
+one_list levels_left xs own other a b h k = one_value (declarations_exact levels_left) xs a b (own, h) (other, k)
 
-read_whole : {V : Type 0} (room : ℕ) (v : V) (rest : List Terminal) (answer : Answer Terminal V) → Agrees room room v rest answer → answer ≡ Ok (v, rest)
-read_whole room v rest (Ok (w, left)) h = rw (h.0, h.1) refl
-read_whole room v rest (Err (form left)) h = absurd h
-read_whole room v rest (Err (deep left)) h = absurd (omega (arith, h))
+read_whole : {V : Type 0} (levels_left : ℕ) (v : V) (rest : List Terminal) (answer : Answer Terminal V) → Agrees levels_left levels_left v rest answer → answer ≡ Ok (v, rest)
+read_whole levels_left v rest (Ok (w, left)) h = rw (h.0, h.1) refl
+read_whole levels_left v rest (Err (form left)) h = absurd h
+read_whole levels_left v rest (Err (deep left)) h = absurd (omega (arith, h))
 
 -- the first declaration is read whatever follows
-first_read : (room : ℕ) (xs : List Terminal) (p : Declaration) → IsDeclaration room xs p → (rest : List Terminal) →
-    declaration_at room (xs ++ rest) ≡ Ok (p, rest)
-first_read room xs p h rest =
-    let begins = (declaration_member room).begins room xs p h in
+first_read : (levels_left : ℕ) (xs : List Terminal) (p : Declaration) → IsDeclaration levels_left xs p → (rest : List Terminal) →
+    declaration_at levels_left (xs ++ rest) ≡ Ok (p, rest)
+first_read levels_left xs p h rest =
+    let begins = (declaration_member levels_left).begins levels_left xs p h in
     let x = begins.0 in
     let ys = begins.1 in
     let split : xs ≡ x ∷ ys = begins.2 in
-    let turned : IsDeclaration room (x ∷ ys) p = rw split at h in
-    rw split (read_whole room p rest (declaration_at room (x ∷ (ys ++ rest)))
-    (((declaration_member room).turn x refl).again room ys p turned rest (before_any rest)))
+    let turned : IsDeclaration levels_left (x ∷ ys) p = rw split at h in
+    rw split (read_whole levels_left p rest (declaration_at levels_left (x ∷ (ys ++ rest)))
+    (((declaration_member levels_left).turn x refl).complete levels_left ys p turned rest (before_any rest)))
 
 -- so it takes the same terminals of one text
-first_split : (room : ℕ) (us vs ys zs : List Terminal) (p q : Declaration) → IsDeclaration room us p → IsDeclaration room vs q →
+first_split : (levels_left : ℕ) (us vs ys zs : List Terminal) (p q : Declaration) → IsDeclaration levels_left us p → IsDeclaration levels_left vs q →
     us ++ ys ≡ vs ++ zs → (us ≡ vs) × (ys ≡ zs)
-first_split room us vs ys zs p q h k e =
-    let a : declaration_at room (us ++ ys) ≡ Ok (p, ys) = first_read room us p h ys in
-    let b : declaration_at room (us ++ ys) ≡ Ok (q, zs) = ap (declaration_at room) e ∙ first_read room vs q k zs in
-    let rests : ys ≡ zs = (same_read (declaration_at room (us ++ ys)) p q ys zs a b).1 in
+first_split levels_left us vs ys zs p q h k e =
+    let a : declaration_at levels_left (us ++ ys) ≡ Ok (p, ys) = first_read levels_left us p h ys in
+    let b : declaration_at levels_left (us ++ ys) ≡ Ok (q, zs) = ap (declaration_at levels_left) e ∙ first_read levels_left vs q k zs in
+    let rests : ys ≡ zs = (same_read (declaration_at levels_left (us ++ ys)) p q ys zs a b).1 in
     (append_cancel_right us vs ys (e ∙ ap (λ ts. vs ++ ts) (sym rests)), rests)
 
-same_own : (room : ℕ) {xs ys own other : List Terminal} {a b : List Declaration} → AreDeclarations room xs own a → AreDeclarations room ys other b →
+same_own : (levels_left : ℕ) {xs ys own other : List Terminal} {a b : List Declaration} → AreDeclarations levels_left xs own a → AreDeclarations levels_left ys other b →
     xs ≡ ys → a ≡ b → own ≡ other
-same_own room no_declaration no_declaration e same = refl
-same_own room no_declaration (a_section h k) e same = cc
-same_own room no_declaration (a_definition h k) e same = cc
-same_own room (a_section h k) no_declaration e same = cc
-same_own room (a_definition h k) no_declaration e same = cc
-same_own room (a_section h k) (a_definition i l) e same = cc
-same_own room (a_definition h k) (a_section i l) e same = cc
-same_own room (a_section {xs = us} {ys = ys} {s = s} h k) (a_section {xs = vs} {ys = zs} {s = t} i l) e same =
-    let split = first_split room us vs ys zs (the_section s) (the_section t) (section_declares room us s h) (section_declares room vs t i) e in
-    let own = same_own room k l split.1 (cc) in
+same_own levels_left no_declaration no_declaration e same = refl
+same_own levels_left no_declaration (a_section h k) e same = cc
+same_own levels_left no_declaration (a_definition h k) e same = cc
+same_own levels_left (a_section h k) no_declaration e same = cc
+same_own levels_left (a_definition h k) no_declaration e same = cc
+same_own levels_left (a_section h k) (a_definition i l) e same = cc
+same_own levels_left (a_definition h k) (a_section i l) e same = cc
+same_own levels_left (a_section {xs = us} {ys = ys} {s = s} h k) (a_section {xs = vs} {ys = zs} {s = t} i l) e same =
+    let split = first_split levels_left us vs ys zs (the_section s) (the_section t) (section_declares levels_left us s h) (section_declares levels_left vs t i) e in
+    let own = same_own levels_left k l split.1 (cc) in
     λ j. split.0 j ++ own j
-same_own room (a_definition {xs = us} {ys = ys} {d = d} h k) (a_definition {xs = vs} {ys = zs} {d = f} i l) e same =
-    let split = first_split room us vs ys zs (the_definition d) (the_definition f) (definition_declares h) (definition_declares i) e in
-    same_own room k l split.1 (cc)
+same_own levels_left (a_definition {xs = us} {ys = ys} {d = d} h k) (a_definition {xs = vs} {ys = zs} {d = f} i l) e same =
+    let split = first_split levels_left us vs ys zs (the_definition d) (the_definition f) (definition_declares h) (definition_declares i) e in
+    same_own levels_left k l split.1 (cc)
 
-pub one_own : (room : ℕ) (xs own other : List Terminal) (a b : List Declaration) → AreDeclarations room xs own a → AreDeclarations room xs other b →
+pub one_own : (levels_left : ℕ) (xs own other : List Terminal) (a b : List Declaration) → AreDeclarations levels_left xs own a → AreDeclarations levels_left xs other b →
     own ≡ other
-one_own room xs own other a b h k = same_own room h k refl (one_list room xs own other a b h k)
+one_own levels_left xs own other a b h k = same_own levels_left h k refl (one_list levels_left xs own other a b h k)
 
-lift_definition : {room r : ℕ} {xs : List Terminal} {d : Definition} → room ≤ r → IsDefinition room xs d → IsDefinition r xs d
+lift_definition : {levels_left r : ℕ} {xs : List Terminal} {d : Definition} → levels_left ≤ r → IsDefinition levels_left xs d → IsDefinition r xs d
 lift_definition few (equation x ps h) = equation x ps (lift_formula few h)
 
-lift_declarations : {room r : ℕ} {xs own : List Terminal} {ds : List Declaration} → room ≤ r → AreDeclarations room xs own ds →
+lift_declarations : {levels_left r : ℕ} {xs own : List Terminal} {ds : List Declaration} → levels_left ≤ r → AreDeclarations levels_left xs own ds →
     AreDeclarations r xs own ds
 lift_declarations few no_declaration = no_declaration
 lift_declarations few (a_section h k) = a_section (lift_section few h) (lift_declarations few k)
 lift_declarations few (a_definition h k) = a_definition (lift_definition few h) (lift_declarations few k)
 
-pub more_room : (extra room : ℕ) (xs own : List Terminal) (ds : List Declaration) → AreDeclarations room xs own ds →
-    AreDeclarations (extra + room) xs own ds
-more_room extra room xs own ds h = lift_declarations (omega arith) h
+pub more_room : (extra levels_left : ℕ) (xs own : List Terminal) (ds : List Declaration) → AreDeclarations levels_left xs own ds →
+    AreDeclarations (extra + levels_left) xs own ds
+more_room extra levels_left xs own ds h = lift_declarations (omega arith) h
 
 -- ---- the sections alone
 
-pub sections_derive : {room : ℕ} {xs own : List Terminal} {ds : List Declaration} → AreDeclarations room xs own ds →
-    AreSections room own (sections_among ds)
+pub sections_derive : {levels_left : ℕ} {xs own : List Terminal} {ds : List Declaration} → AreDeclarations levels_left xs own ds →
+    AreSections levels_left own (sections_among ds)
 sections_derive no_declaration = no_section
 sections_derive (a_section h k) = section h (sections_derive k)
 sections_derive (a_definition h k) = sections_derive k
 
-pub sections_are_all : {room : ℕ} {xs : List Terminal} {ss : List SectionSyntax} → AreSections room xs ss →
-    AreDeclarations room xs xs (map the_section ss)
+pub sections_are_all : {levels_left : ℕ} {xs : List Terminal} {ss : List SectionSyntax} → AreSections levels_left xs ss →
+    AreDeclarations levels_left xs xs (map the_section ss)
 sections_are_all no_section = no_declaration
 sections_are_all (section h k) = a_section h (sections_are_all k)
 
-pub only_sections : {room : ℕ} {xs own : List Terminal} {ds : List Declaration} → AreDeclarations room xs own ds → (ss : List SectionSyntax) →
-    ds ≡ map the_section ss → (own ≡ xs) × AreSections room xs ss
+pub only_sections : {levels_left : ℕ} {xs own : List Terminal} {ds : List Declaration} → AreDeclarations levels_left xs own ds → (ss : List SectionSyntax) →
+    ds ≡ map the_section ss → (own ≡ xs) × AreSections levels_left xs ss
 only_sections no_declaration [] e = (refl, no_section)
 only_sections no_declaration (s ∷ ss) e = cc
 only_sections (a_section h k) [] e = cc
 only_sections (a_definition h k) [] e = cc
 only_sections (a_definition h k) (s ∷ ss) e = cc
-only_sections {room = room} (a_section {xs = us} {s = t} {ds = ds} h k) (s ∷ ss) e =
+only_sections {levels_left = levels_left} (a_section {xs = us} {s = t} {ds = ds} h k) (s ∷ ss) e =
     let same : t ≡ s = cc in
     let others : ds ≡ map the_section ss = cc in
     let rest = only_sections k ss others in
-    let here : IsSection room us s = rw same at h in
+    let here : IsSection levels_left us s = rw same at h in
     (ap (λ ts. us ++ ts) rest.0, section here rest.1)
 
 -- ---- names
@@ -122,17 +122,17 @@ free_names : (ps : List (List ℕ)) → free_texts (map free ps) ≡ ps
 free_names [] = refl
 free_names (p ∷ ps) = ap (λ ts. p ∷ ts) (free_names ps)
 
-item_names : {room : ℕ} {xs : List Terminal} {fs : List FormulaSyntax} → AreItems room xs fs →
+item_names : {levels_left : ℕ} {xs : List Terminal} {fs : List FormulaSyntax} → AreItems levels_left xs fs →
     free_texts xs ≡ flat_map (λ a. free_texts (written a)) fs
 item_names nothing = refl
 item_names (last_item {f = f} h) = ap free_texts (formula_is h) ∙ sym (append-nil (free_texts (written f)))
 item_names (item {xs = xs} {ys = ys} h k) = free_append xs (mark Semicolon ∷ ys) ∙ (λ i. free_texts (formula_is h i) ++ item_names k i)
 
-braced_names : {room : ℕ} {ys : List Terminal} {fs : List FormulaSyntax} → AreItems room ys fs →
+braced_names : {levels_left : ℕ} {ys : List Terminal} {fs : List FormulaSyntax} → AreItems levels_left ys fs →
     free_texts (ys ++ mark CloseBrace ∷ []) ≡ flat_map (λ a. free_texts (written a)) fs
 braced_names {ys = ys} k = free_append ys (mark CloseBrace ∷ []) ∙ append-nil (free_texts ys) ∙ item_names k
 
-section_names : {room : ℕ} {xs : List Terminal} {s : SectionSyntax} → IsSection room xs s → free_texts xs ≡ section_texts s
+section_names : {levels_left : ℕ} {xs : List Terminal} {s : SectionSyntax} → IsSection levels_left xs s → free_texts xs ≡ section_texts s
 section_names (braces assume k) = braced_names k
 section_names (braces guarantee k) = braced_names k
 section_names (braces initially_assume k) = braced_names k
@@ -145,15 +145,15 @@ body_names xs a ps e =
     free_append (map free ps) (mark Equals ∷ (xs ++ mark Semicolon ∷ []))
     ∙ (λ i. free_names ps i ++ (free_append xs (mark Semicolon ∷ []) ∙ append-nil (free_texts xs) ∙ ap free_texts e) i)
 
-definition_names : {room : ℕ} {xs : List Terminal} {d : Definition} → IsDefinition room xs d → free_texts xs ≡ declaration_texts (the_definition d)
+definition_names : {levels_left : ℕ} {xs : List Terminal} {d : Definition} → IsDefinition levels_left xs d → free_texts xs ≡ declaration_texts (the_definition d)
 definition_names (equation {xs = xs} {a = a} x ps h) = ap (λ ts. x ∷ ts) (body_names xs a ps (formula_is h))
 
-pub all_names : {room : ℕ} {xs own : List Terminal} {ds : List Declaration} → AreDeclarations room xs own ds → free_texts xs ≡ flat_map declaration_texts ds
+pub all_names : {levels_left : ℕ} {xs own : List Terminal} {ds : List Declaration} → AreDeclarations levels_left xs own ds → free_texts xs ≡ flat_map declaration_texts ds
 all_names no_declaration = refl
 all_names (a_section {xs = xs} {ys = ys} h k) = free_append xs ys ∙ (λ i. section_names h i ++ all_names k i)
 all_names (a_definition {xs = xs} {ys = ys} h k) = free_append xs ys ∙ (λ i. definition_names h i ++ all_names k i)
 
-pub own_names : {room : ℕ} {xs own : List Terminal} {ds : List Declaration} → AreDeclarations room xs own ds →
+pub own_names : {levels_left : ℕ} {xs own : List Terminal} {ds : List Declaration} → AreDeclarations levels_left xs own ds →
     free_texts own ≡ flat_map section_texts (sections_among ds)
 own_names no_declaration = refl
 own_names (a_section {xs = xs} {own = own} h k) = free_append xs own ∙ (λ i. section_names h i ++ own_names k i)

@@ -35,9 +35,9 @@ is_name _ = false
 abbrev NoName : Terminal → Type 0
 NoName x = is_name x ≡ false
 
-name_member : (room : ℕ) → Member IsName Any NoName room name_at is_name (λ xs. found_or_wrong (name_at xs) xs)
+name_member : (levels_left : ℕ) → Member IsName Any NoName levels_left name_at is_name (λ xs. found_or_wrong (name_at xs) xs)
 unfolding name_at
-name_member room = record {
+name_member levels_left = record {
   at_end = refl;
   none = none_here;
   some = some_here;
@@ -57,7 +57,7 @@ name_member room = record {
   some_here (free x) rest e = refl
   some_here _ rest e = cc
 
-  turn : (x : Terminal) → is_name x ≡ true → Turn IsName Any room (λ xs. found_or_wrong (name_at xs) xs) x
+  turn : (x : Terminal) → is_name x ≡ true → Turn IsName Any levels_left (λ xs. found_or_wrong (name_at xs) xs) x
   turn (free x) e = turn_alone x (λ rest. refl) (λ r. refl) (λ r ys j h. (cc, cc))
   turn _ e = cc
 
@@ -108,15 +108,15 @@ WithBody x ps r xs d = (a : FormulaSyntax) × IsBody r xs a × (d ≡ definition
 abbrev IsAfterName : List ℕ → Grammar Terminal Definition
 IsAfterName x = IsThen IsParameters (WithBody x)
 
-parameters_exact : (room : ℕ) → Exact IsParameters Any room parameters
+parameters_exact : (levels_left : ℕ) → Exact IsParameters Any levels_left parameters
 unfolding parameters
-parameters_exact room = closed_exact is_equals (mark Equals) refl equals_no_name more_names (members_exact (name_member room))
+parameters_exact levels_left = closed_exact is_equals (mark Equals) refl equals_no_name more_names (members_exact (name_member levels_left))
 
-body_exact : (room : ℕ) → Exact IsBody Any room (body room)
+body_exact : (levels_left : ℕ) → Exact IsBody Any levels_left (body levels_left)
 unfolding body
-body_exact room =
+body_exact levels_left =
     closed_exact is_semicolon (mark Semicolon) refl semicolon_loose (λ r xs f h. lift_formula (omega arith) h)
-    (formula_exact room (lower room) (below_exact room))
+    (formula_exact levels_left (lower levels_left) (below_exact levels_left))
 
 some_formula : (r : ℕ) → IsFormula r (word True ∷ []) truth
 some_formula r =
@@ -149,12 +149,12 @@ pub before_any : (xs : List Terminal) → Before Any xs
 before_any [] = tt
 before_any (x ∷ xs) = tt
 
-definition_exact : (room : ℕ) (x : List ℕ) → Exact (IsAfterName x) Any room (definition room x)
+definition_exact : (levels_left : ℕ) (x : List ℕ) → Exact (IsAfterName x) Any levels_left (definition levels_left x)
 unfolding definition
-definition_exact room x =
+definition_exact levels_left x =
     exact_then (record { lift = lift_closed is_equals (AreAll IsName) more_names; default = some_body x })
-    (λ r ps xs d h rest b. before_any (xs ++ rest)) (parameters_exact room)
-    (λ ps. exact_map (definition_made x ps) (λ r xs a h. (a, h, refl)) (λ r xs d h. h) (body_exact room))
+    (λ r ps xs d h rest b. before_any (xs ++ rest)) (parameters_exact levels_left)
+    (λ ps. exact_map (definition_made x ps) (λ r xs a h. (a, h, refl)) (λ r xs d h. h) (body_exact levels_left))
 
 more_body : (x : List ℕ) (ps : List (List ℕ)) (r : ℕ) (xs : List Terminal) (d : Definition) → WithBody x ps r xs d →
     WithBody x ps (suc (suc r)) xs d
@@ -199,9 +199,9 @@ section_declares r _ s h = (s, h, refl)
 pub definition_declares : {r : ℕ} {xs : List Terminal} {d : Definition} → IsDefinition r xs d → IsDeclaration r xs (the_definition d)
 definition_declares {r = r} (equation {xs = xs} {a = a} x ps h) = (definition_made x ps a, after_name x r ps xs a h, refl)
 
-pub declaration_member : (room : ℕ) → Member IsDeclaration Any (λ x. ⊥) room (declaration room) (λ x. true) (declaration_at room)
+pub declaration_member : (levels_left : ℕ) → Member IsDeclaration Any (λ x. ⊥) levels_left (declaration levels_left) (λ x. true) (declaration_at levels_left)
 unfolding declaration declaration_at
-declaration_member room = record {
+declaration_member levels_left = record {
   at_end = refl;
   none = λ x rest e. cc;
   some = λ x rest e. refl;
@@ -221,14 +221,14 @@ declaration_member room = record {
   lift r [] p h = (h.0, lift_section (omega arith) h.1, h.2)
   lift r _ p h = (h.0, lift_section (omega arith) h.1, h.2)
 
-  turn : (x : Terminal) → Turn IsDeclaration Any room (declaration_at room) x
+  turn : (x : Terminal) → Turn IsDeclaration Any levels_left (declaration_at levels_left) x
   turn (free x) =
-      turn_takes the_definition (definition room x) (λ rest. refl) (λ y h. h) (λ r ys d h. (d, h, refl)) (λ r ys p h. h)
-      (definition_exact room x)
-  turn _ = turn_as the_section (section_at room) (λ rest. refl) (λ y h. h) section_declares (λ r ys p h. h) (section_exact room)
+      turn_takes the_definition (definition levels_left x) (λ rest. refl) (λ y h. h) (λ r ys d h. (d, h, refl)) (λ r ys p h. h)
+      (definition_exact levels_left x)
+  turn _ = turn_as the_section (section_at levels_left) (λ rest. refl) (λ y h. h) section_declares (λ r ys p h. h) (section_exact levels_left)
 
-pub declaration_shrinks : (room : ℕ) → Shrinks (push (declaration room))
-declaration_shrinks room = step_shrinks (stepping (declaration_member room))
+pub declaration_shrinks : (levels_left : ℕ) → Shrinks (push (declaration levels_left))
+declaration_shrinks levels_left = step_shrinks (stepping (declaration_member levels_left))
 
 -- ---- whole texts
 
@@ -247,25 +247,25 @@ all_declarations {r = r} (a_section {xs = xs} {s = s} h k) = some (section_decla
 all_declarations (a_definition h k) = some (definition_declares h) (all_declarations k)
 
 -- a whole text is read exactly
-pub declarations_exact : (room : ℕ) → Exact IsText (λ x. ⊥) room (declarations room)
+pub declarations_exact : (levels_left : ℕ) → Exact IsText (λ x. ⊥) levels_left (declarations levels_left)
 unfolding declarations
-declarations_exact room = exact_as text_of (λ r xs ds h. all_declarations h.1) (λ x h. h) (members_exact (declaration_member room))
+declarations_exact levels_left = exact_as text_of (λ r xs ds h. all_declarations h.1) (λ x h. h) (members_exact (declaration_member levels_left))
 
 -- nothing is left where a text is read
-pub all_read : (room : ℕ) (xs : List Terminal) (ds : List Declaration) (rest : List Terminal) → declarations room xs ≡ Ok (ds, rest) → rest ≡ []
+pub all_read : (levels_left : ℕ) (xs : List Terminal) (ds : List Declaration) (rest : List Terminal) → declarations levels_left xs ≡ Ok (ds, rest) → rest ≡ []
 unfolding declarations declaration
-all_read room xs ds [] h = refl
-all_read room xs ds (x ∷ rest) h =
-    let none : push (declaration room) ds (x ∷ rest) ≡ None = no_step_left (declaration_shrinks room) [] xs ds (x ∷ rest) h in
+all_read levels_left xs ds [] h = refl
+all_read levels_left xs ds (x ∷ rest) h =
+    let none : push (declaration levels_left) ds (x ∷ rest) ≡ None = no_step_left (declaration_shrinks levels_left) [] xs ds (x ∷ rest) h in
     cc
 
 -- what is read as a whole text derives so
-pub declarations_derive : (room : ℕ) (xs : List Terminal) (ds : List Declaration) (rest : List Terminal) → declarations room xs ≡ Ok (ds, rest) →
-    IsText room xs ds
-declarations_derive room xs ds rest h =
-    let front = taken xs ((declarations_exact room).run xs) ds rest h in
-    let whole : xs ≡ front.0 = front.1 ∙ ap (λ r. front.0 ++ r) (all_read room xs ds rest h) ∙ append-nil front.0 in
+pub declarations_derive : (levels_left : ℕ) (xs : List Terminal) (ds : List Declaration) (rest : List Terminal) → declarations levels_left xs ≡ Ok (ds, rest) →
+    IsText levels_left xs ds
+declarations_derive levels_left xs ds rest h =
+    let front = taken xs ((declarations_exact levels_left).run xs) ds rest h in
+    let whole : xs ≡ front.0 = front.1 ∙ ap (λ r. front.0 ++ r) (all_read levels_left xs ds rest h) ∙ append-nil front.0 in
     rw whole front.2
 
-pub declarations_read : (room : ℕ) (xs : List Terminal) (ds : List Declaration) → IsText room xs ds → declarations room xs ≡ Ok (ds, [])
-declarations_read room xs ds h = reads_all (declarations_exact room) room (omega arith) xs ds h
+pub declarations_read : (levels_left : ℕ) (xs : List Terminal) (ds : List Declaration) → IsText levels_left xs ds → declarations levels_left xs ≡ Ok (ds, [])
+declarations_read levels_left xs ds h = reads_all (declarations_exact levels_left) levels_left (omega arith) xs ds h

@@ -61,19 +61,19 @@ abbrev ChainTail : ManyOperator → Grammar Terminal FormulaSyntax → FormulaSy
 ChainTail op IsOperand a r xs f = (fs : List FormulaSyntax) × AreFurther op IsOperand r xs fs × (f ≡ join op a fs)
 
 module _ {op : ManyOperator} {IsOperand : Grammar Terminal FormulaSyntax} {n : ℕ} (k : ChainFacts op IsOperand n) where
-  module _ (room : ℕ) {operand : Reader Terminal FormulaSyntax} (exact : Exact IsOperand (Below_tie (suc n)) room operand) where
-    pub further_member : Member (IsAfter (is_sign op) IsOperand) (Below_tie (suc n)) (Below_tie n) room
+  module _ (levels_left : ℕ) {operand : Reader Terminal FormulaSyntax} (exact : Exact IsOperand (Below_tie (suc n)) levels_left operand) where
+    pub further_member : Member (IsAfter (is_sign op) IsOperand) (Below_tie (suc n)) (Below_tie n) levels_left
         (further op operand) (is_sign op) (after (is_sign op) operand)
     unfolding further further_from
     further_member =
-        marked_member (is_sign op) k.sign k.opens (k.begins room) k.lift refl (λ x rest e. ap (λ here. further_from here operand rest) e)
+        marked_member (is_sign op) k.sign k.opens (k.begins levels_left) k.lift refl (λ x rest e. ap (λ here. further_from here operand rest) e)
         (λ x rest e. ap (λ here. further_from here operand rest) e) (λ x e. omega (arith, k.ties x e)) (λ x e. stops x e (is_sign op x) refl)
         (λ x e. omega (arith, e)) exact where
           stops : (x : Terminal) → tie x < n → (here : Bool) → is_sign op x ≡ here → is_sign op x ≡ false
           stops x e true h = absurd (omega (arith, e, k.ties x h))
           stops x e false h = h
 
-    chain_after_exact : (a : FormulaSyntax) → Exact (ChainTail op IsOperand a) (Below_tie n) room (chain_after op operand a)
+    chain_after_exact : (a : FormulaSyntax) → Exact (ChainTail op IsOperand a) (Below_tie n) levels_left (chain_after op operand a)
     unfolding chain_after
     chain_after_exact a = exact_map (join op a) (λ r xs fs h. (fs, h, refl)) (λ r xs f h. h) (members_exact further_member)
 
@@ -159,13 +159,13 @@ or_parts r xs f (disjunction {xs = front} {ys = tail} {a = a} {fs = fs} h k) =
 or_of : (r : ℕ) (xs : List Terminal) (f : FormulaSyntax) → IsThen IsAnd OrTail r xs f → IsOr r xs f
 or_of r xs f h = rw (h.split, h.second.2) (disjunction h.first (disjuncts_of r h.tail h.second.0 h.second.1))
 
-pub and_exact : (room : ℕ) (low : Option Level) → Below LevelExact room low → Exact IsAnd (Below_tie 5) room (and_with low)
+pub and_exact : (levels_left : ℕ) (low : Option Level) → Below LevelExact levels_left low → Exact IsAnd (Below_tie 5) levels_left (and_with low)
 unfolding and_with
-and_exact room low b =
+and_exact levels_left low b =
     exact_as and_of and_parts (λ x h. h)
     (exact_then (record { lift = lift_prefixes; default = λ r c. record { ending = []; value = c; derives = ([], none, refl) } })
-    (λ r c xs f h rest k. follow 5 xs rest (chain_tail_ties and_facts c r xs f h) k) (prefix_exact room low b)
-    (chain_after_exact and_facts room (prefix_exact room low b)))
+    (λ r c xs f h rest k. follow 5 xs rest (chain_tail_ties and_facts c r xs f h) k) (prefix_exact levels_left low b)
+    (chain_after_exact and_facts levels_left (prefix_exact levels_left low b)))
 
 -- ---- the right sides of arrows
 
@@ -188,13 +188,13 @@ no_arrow Double _ e = refl
 abbrev ArrowTail : ArrowKind → FormulaSyntax → Grammar Terminal FormulaSyntax
 ArrowTail kind a = IsTail (is_arrow kind) (between (operator_of kind) a) (IsRight kind) a
 
-arrow_tail_exact : (kind : ArrowKind) (room : ℕ) (low : Option Level) → Below LevelExact room low → (a : FormulaSyntax) →
-    Exact (ArrowTail kind a) (Below_tie (arrow_tie kind)) room (arrow_after low kind a)
+arrow_tail_exact : (kind : ArrowKind) (levels_left : ℕ) (low : Option Level) → Below LevelExact levels_left low → (a : FormulaSyntax) →
+    Exact (ArrowTail kind a) (Below_tie (arrow_tie kind)) levels_left (arrow_after low kind a)
 unfolding arrow_after arrow_from
-arrow_tail_exact kind room low b a =
+arrow_tail_exact kind levels_left low b a =
     tail_exact (is_arrow kind) (between (operator_of kind) a) {Holds = LevelExact} a low (λ l. l.right kind) (λ k l h. h.right kind) b refl
     (λ x rest e. ap (λ here. arrow_from low kind here a (x ∷ rest)) e)
-    (λ x rest e. ap (λ here. arrow_from low kind here a (x ∷ rest)) e) (no_arrow kind) (λ x h. h) (a_right kind (suc room))
+    (λ x rest e. ap (λ here. arrow_from low kind here a (x ∷ rest)) e) (no_arrow kind) (λ x h. h) (a_right kind (suc levels_left))
 
 tail_ties : (is : Terminal → Bool) (make : FormulaSyntax → FormulaSyntax) (Low : Grammar Terminal FormulaSyntax) (n : ℕ) →
     ((x : Terminal) → is x ≡ true → tie x ≡ n) →
@@ -253,37 +253,37 @@ lift_imp_after : (a : FormulaSyntax) (r : ℕ) (xs : List Terminal) (f : Formula
 lift_imp_after a = lift_then (OrAfter a) (ArrowTail Single) (lift_or_after a)
     (λ c. lift_tail (is_arrow Single) (between Implication c) IsImp (λ r xs f h. lift_imp (omega arith) h) c)
 
-or_after_exact : (room : ℕ) (low : Option Level) → Below LevelExact room low → (a : FormulaSyntax) →
-    Exact (OrAfter a) (Below_tie 4) room (or_after low a)
+or_after_exact : (levels_left : ℕ) (low : Option Level) → Below LevelExact levels_left low → (a : FormulaSyntax) →
+    Exact (OrAfter a) (Below_tie 4) levels_left (or_after low a)
 unfolding or_after
-or_after_exact room low b a =
+or_after_exact levels_left low b a =
     exact_then (record {
       lift = lift_chain_tail and_facts a;
       default =
           λ r c. record { ending = []; value = c; derives = ([], none, refl) };
     })
     (λ r c xs f h rest k. follow 4 xs rest (chain_tail_ties or_facts c r xs f h) k)
-    (chain_after_exact and_facts room (prefix_exact room low b) a) (chain_after_exact or_facts room (and_exact room low b))
+    (chain_after_exact and_facts levels_left (prefix_exact levels_left low b) a) (chain_after_exact or_facts levels_left (and_exact levels_left low b))
 
 -- an arrow and its right side after a left side
-arrow_exact : (kind : ArrowKind) (room : ℕ) (low : Option Level) → Below LevelExact room low → {Left : Grammar Terminal FormulaSyntax}
+arrow_exact : (kind : ArrowKind) (levels_left : ℕ) (low : Option Level) → Below LevelExact levels_left low → {Rest : Grammar Terminal FormulaSyntax}
     {left : Reader Terminal FormulaSyntax} →
-    ((r : ℕ) (xs : List Terminal) (f : FormulaSyntax) → Left r xs f → Left (suc (suc r)) xs f) →
-    Exact Left (Below_tie (suc (arrow_tie kind))) room left →
-    Exact (IsThen Left (ArrowTail kind)) (Below_tie (arrow_tie kind)) room (λ xs. and_then (left xs) (arrow_after low kind))
-arrow_exact kind room low b lift exact =
+    ((r : ℕ) (xs : List Terminal) (f : FormulaSyntax) → Rest r xs f → Rest (suc (suc r)) xs f) →
+    Exact Rest (Below_tie (suc (arrow_tie kind))) levels_left left →
+    Exact (IsThen Rest (ArrowTail kind)) (Below_tie (arrow_tie kind)) levels_left (λ xs. and_then (left xs) (arrow_after low kind))
+arrow_exact kind levels_left low b lift exact =
     exact_then (record { lift = lift; default = λ r c. record { ending = []; value = c; derives = refl } })
-    (λ r c xs f h rest k. follow (arrow_tie kind) xs rest (arrow_tail_ties kind c r xs f h) k) exact (arrow_tail_exact kind room low b)
+    (λ r c xs f h rest k. follow (arrow_tie kind) xs rest (arrow_tail_ties kind c r xs f h) k) exact (arrow_tail_exact kind levels_left low b)
 
-imp_after_exact : (room : ℕ) (low : Option Level) → Below LevelExact room low → (a : FormulaSyntax) →
-    Exact (ImpAfter a) (Below_tie 3) room (imp_after low a)
+imp_after_exact : (levels_left : ℕ) (low : Option Level) → Below LevelExact levels_left low → (a : FormulaSyntax) →
+    Exact (ImpAfter a) (Below_tie 3) levels_left (imp_after low a)
 unfolding imp_after
-imp_after_exact room low b a = arrow_exact Single room low b (lift_or_after a) (or_after_exact room low b a)
+imp_after_exact levels_left low b a = arrow_exact Single levels_left low b (lift_or_after a) (or_after_exact levels_left low b a)
 
-iff_after_exact : (room : ℕ) (low : Option Level) → Below LevelExact room low → (a : FormulaSyntax) →
-    Exact (IffAfter a) (Below_tie 2) room (iff_after low a)
+iff_after_exact : (levels_left : ℕ) (low : Option Level) → Below LevelExact levels_left low → (a : FormulaSyntax) →
+    Exact (IffAfter a) (Below_tie 2) levels_left (iff_after low a)
 unfolding iff_after
-iff_after_exact room low b a = arrow_exact Double room low b (lift_imp_after a) (imp_after_exact room low b a)
+iff_after_exact levels_left low b a = arrow_exact Double levels_left low b (lift_imp_after a) (imp_after_exact levels_left low b a)
 
 or_first : (r : ℕ) (xs : List Terminal) (f : FormulaSyntax) → IsOr r xs f → IsThen IsPrefix OrAfter r xs f
 or_first r xs f h = then_right IsPrefix AndTail OrTail r xs f
@@ -366,19 +366,19 @@ nothing_more a r = record {
   second = refl;
 }
 
-pub right_exact : (kind : ArrowKind) (room : ℕ) (low : Option Level) → Below LevelExact room low →
-    Exact (IsRight kind) (Below_tie (arrow_tie kind)) room (right_with kind low)
+pub right_exact : (kind : ArrowKind) (levels_left : ℕ) (low : Option Level) → Below LevelExact levels_left low →
+    Exact (IsRight kind) (Below_tie (arrow_tie kind)) levels_left (right_with kind low)
 unfolding right_with
-right_exact Single room low b =
+right_exact Single levels_left low b =
     exact_as first_imp imp_first (λ x h. h)
     (exact_then (record { lift = lift_prefixes; default = λ r c. record { ending = []; value = c; derives = (nothing_more c r).first } })
-    (λ r c xs f h rest k. before_prefix 3 (omega arith) xs rest (imp_after_infix c r xs f h) k) (prefix_exact room low b)
-    (imp_after_exact room low b))
-right_exact Double room low b =
+    (λ r c xs f h rest k. before_prefix 3 (omega arith) xs rest (imp_after_infix c r xs f h) k) (prefix_exact levels_left low b)
+    (imp_after_exact levels_left low b))
+right_exact Double levels_left low b =
     exact_as first_iff iff_first (λ x h. h)
     (exact_then (record { lift = lift_prefixes; default = λ r c. record { ending = []; value = c; derives = nothing_more c r } })
-    (λ r c xs f h rest k. before_prefix 2 (omega arith) xs rest (iff_after_infix c r xs f h) k) (prefix_exact room low b)
-    (iff_after_exact room low b))
+    (λ r c xs f h rest k. before_prefix 2 (omega arith) xs rest (iff_after_infix c r xs f h) k) (prefix_exact levels_left low b)
+    (iff_after_exact levels_left low b))
 
 -- ---- whole formulas
 
@@ -413,30 +413,30 @@ as_tail : (a : FormulaSyntax) (r : ℕ) (xs : List Terminal) (f : FormulaSyntax)
 as_tail a r [] f h = h
 as_tail a r (x ∷ ys) f h = rw (not_temporal x (iff_after_infix a r (x ∷ ys) f h)) h
 
-formula_after_exact : (room : ℕ) (low : Option Level) → Below LevelExact room low → (a : FormulaSyntax) →
-    Exact (FormulaTail a) (Below_tie 1) room (formula_after low a)
+formula_after_exact : (levels_left : ℕ) (low : Option Level) → Below LevelExact levels_left low → (a : FormulaSyntax) →
+    Exact (FormulaTail a) (Below_tie 1) levels_left (formula_after low a)
 unfolding formula_after formula_from
-formula_after_exact room low b a =
+formula_after_exact levels_left low b a =
     by_first
     (end_as (λ f. f) (iff_after low a) (sym (map_same (iff_after low a []))) (λ y h. omega (arith, h)) (as_tail a) (λ r f h. (f, h, refl))
     (λ r f h y rest e. as_from y None (loose_not_temporal y e) rest
-    ∙ sym (map_same (iff_after low a (y ∷ rest)))) (iff_after_exact room low b a))
+    ∙ sym (map_same (iff_after low a (y ∷ rest)))) (iff_after_exact levels_left low b a))
     (λ x. by x (temporal_of x) refl) where
       as_from : (x : Terminal) (found : Option BinaryOperator) → temporal_of x ≡ found → (rest : List Terminal) →
           formula_after low a (x ∷ rest) ≡ formula_from low found a (x ∷ rest)
       as_from x found e rest = ap (λ o. formula_from low o a (x ∷ rest)) e
 
       by : (x : Terminal) (found : Option BinaryOperator) → temporal_of x ≡ found →
-          Turn (FormulaTail a) (Below_tie 1) room (formula_after low a) x
+          Turn (FormulaTail a) (Below_tie 1) levels_left (formula_after low a) x
       by x None e =
           turn_as (λ f. f) (iff_after low a) (λ rest. as_from x None e rest
           ∙ sym (map_same (iff_after low a (x ∷ rest)))) (λ y h. omega (arith, h)) (as_tail a)
-          (λ r ys f h. (f, is_after r ys f h, refl)) (iff_after_exact room low b a) where
+          (λ r ys f h. (f, is_after r ys f h, refl)) (iff_after_exact levels_left low b a) where
             is_after : (r : ℕ) (ys : List Terminal) (f : FormulaSyntax) → FormulaFrom (temporal_of x) a x r ys f → IffAfter a r (x ∷ ys) f
             is_after r ys f h = rw e at h
       by x (Some op) e =
           turn_takes (between op a) (prefix_with low) (as_from x (Some op) e) (λ y h. omega (arith, h)) (λ r ys f h. rw e (f, h, refl))
-          (λ r ys f h. rw e at h) (prefix_exact room low b)
+          (λ r ys f h. rw e at h) (prefix_exact levels_left low b)
 
 pub formula_parts : (r : ℕ) (xs : List Terminal) (f : FormulaSyntax) → IsFormula r xs f → IsThen IsPrefix FormulaTail r xs f
 formula_parts r xs f (temporal {xs = front} {ys = ys} {a = a} {b = c} op t is h k) =
@@ -468,16 +468,16 @@ formula_of r xs f h = by h.tail h.second h.split where
   by [] second split = whole [] second split
   by (x ∷ ys) second split = by_operator x ys (temporal_of x) refl second split
 
-pub formula_exact : (room : ℕ) (low : Option Level) → Below LevelExact room low → Exact IsFormula (Below_tie 1) room (formula_with low)
+pub formula_exact : (levels_left : ℕ) (low : Option Level) → Below LevelExact levels_left low → Exact IsFormula (Below_tie 1) levels_left (formula_with low)
 unfolding formula_with
-formula_exact room low b =
+formula_exact levels_left low b =
     exact_as formula_of formula_parts (λ x h. h)
     (exact_then (record {
       lift = lift_prefixes;
       default =
           λ r c. record { ending = []; value = c; derives = nothing_more c r };
-    }) follow_tail (prefix_exact room low b)
-    (formula_after_exact room low b)) where
+    }) follow_tail (prefix_exact levels_left low b)
+    (formula_after_exact levels_left low b)) where
       by_found : (r : ℕ) (c : FormulaSyntax) (x : Terminal) (ys : List Terminal) (f : FormulaSyntax) (found : Option BinaryOperator) →
           temporal_of x ≡ found → FormulaFrom found c x r ys f → tie x < 6
       by_found r c x ys f None e h = (iff_after_infix c r (x ∷ ys) f h).1
@@ -490,17 +490,17 @@ formula_exact room low b =
 
 -- ---- all levels
 
-level_exact : (room : ℕ) → Below LevelExact room (lower room) → LevelExact room (above (lower room))
+level_exact : (levels_left : ℕ) → Below LevelExact levels_left (lower levels_left) → LevelExact levels_left (above (lower levels_left))
 unfolding above
-level_exact room b = record {
-  term = term_exact room (lower room) (terms_below room (lower room) b);
-  prefix = prefix_exact room (lower room) b;
-  right = λ kind. right_exact kind room (lower room) b;
-  formula = formula_exact room (lower room) b;
+level_exact levels_left b = record {
+  term = term_exact levels_left (lower levels_left) (terms_below levels_left (lower levels_left) b);
+  prefix = prefix_exact levels_left (lower levels_left) b;
+  right = λ kind. right_exact kind levels_left (lower levels_left) b;
+  formula = formula_exact levels_left (lower levels_left) b;
 }
 
 -- each level is read exactly
-pub below_exact : (room : ℕ) → Below LevelExact room (lower room)
+pub below_exact : (levels_left : ℕ) → Below LevelExact levels_left (lower levels_left)
 unfolding lower
 below_exact zero = tt
-below_exact (suc room) = level_exact room (below_exact room)
+below_exact (suc levels_left) = level_exact levels_left (below_exact levels_left)

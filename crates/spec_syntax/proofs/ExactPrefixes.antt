@@ -51,17 +51,17 @@ arrow_tie Single = 3
 arrow_tie Double = 2
 
 -- what holds of each level's readers
-pub record LevelExact (room : ℕ) (l : Level) : Type 0 where
-  pub term : TermExact room l
-  pub prefix : Exact IsPrefix (Below_tie 6) room l.prefix
-  pub right : (kind : ArrowKind) → Exact (IsRight kind) (Below_tie (arrow_tie kind)) room (l.right kind)
-  pub formula : Exact IsFormula (Below_tie 1) room l.formula
+pub record LevelExact (levels_left : ℕ) (l : Level) : Type 0 where
+  pub term : TermExact levels_left l
+  pub prefix : Exact IsPrefix (Below_tie 6) levels_left l.prefix
+  pub right : (kind : ArrowKind) → Exact (IsRight kind) (Below_tie (arrow_tie kind)) levels_left (l.right kind)
+  pub formula : Exact IsFormula (Below_tie 1) levels_left l.formula
 
-pub terms_below : (room : ℕ) (low : Option Level) → Below LevelExact room low → Below TermExact room low
+pub terms_below : (levels_left : ℕ) (low : Option Level) → Below LevelExact levels_left low → Below TermExact levels_left low
 terms_below zero None h = tt
 terms_below zero (Some l) h = absurd h
-terms_below (suc room) None h = absurd h
-terms_below (suc room) (Some l) h = h.term
+terms_below (suc levels_left) None h = absurd h
+terms_below (suc levels_left) (Some l) h = h.term
 
 lift_formulas : (r : ℕ) (xs : List Terminal) (f : FormulaSyntax) → IsFormula r xs f → IsFormula (suc (suc r)) xs f
 lift_formulas r xs f h = lift_formula (omega arith) h
@@ -139,15 +139,15 @@ an_arrowed r x = record {
   );
 }
 
-assigned_exact : (room : ℕ) (low : Option Level) → Below TermExact room low → (x : List ℕ) → Exact (IsArrowed x) Any room (assigned low x)
+assigned_exact : (levels_left : ℕ) (low : Option Level) → Below TermExact levels_left low → (x : List ℕ) → Exact (IsArrowed x) Any levels_left (assigned low x)
 unfolding assigned
-assigned_exact room low b x = by_first (end_wrong refl (an_arrowed room x) (λ r v h. h)) turn where
-  turn : (y : Terminal) → Turn (IsArrowed x) Any room (assigned low x) y
+assigned_exact levels_left low b x = by_first (end_wrong refl (an_arrowed levels_left x) (λ r v h. h)) turn where
+  turn : (y : Terminal) → Turn (IsArrowed x) Any levels_left (assigned low x) y
   turn (mark LeftArrow) =
       turn_takes (updated x) (closed_by is_close_square (term_with low)) (λ rest. refl) (λ y h. h) (λ r ys t h. (t, h, refl))
       (λ r ys f h. h)
-      (closed_exact is_close_square (mark CloseSquare) refl square_loose lift_terms (term_exact room low b))
-  turn _ = turn_wrong (λ rest. refl) (an_arrowed room x) (λ r ys f h. h)
+      (closed_exact is_close_square (mark CloseSquare) refl square_loose lift_terms (term_exact levels_left low b))
+  turn _ = turn_wrong (λ rest. refl) (an_arrowed levels_left x) (λ r ys f h. h)
 
 update_is : (low : Option Level) (x : List ℕ) (rest : List Terminal) →
     update_with low (free x ∷ rest) ≡ map_read (λ f. f) (assigned low x rest)
@@ -156,11 +156,11 @@ update_is low x (mark LeftArrow ∷ rest) = sym (map_same (map_read (updated x) 
 update_is low x [] = refl
 update_is low x _ = refl
 
-update_exact : (room : ℕ) (low : Option Level) → Below TermExact room low → Exact IsUpdate Any room (update_with low)
+update_exact : (levels_left : ℕ) (low : Option Level) → Below TermExact levels_left low → Exact IsUpdate Any levels_left (update_with low)
 unfolding update_with
-update_exact room low b = by_first (end_wrong refl an_update (λ r v h. h)) turn where
-  an_update : Begins (IsUpdate room) []
-  an_update = let an = an_arrowed room (codes "a") in record { ending = a ∷ an.ending; value = an.value; derives = an.derives }
+update_exact levels_left low b = by_first (end_wrong refl an_update (λ r v h. h)) turn where
+  an_update : Begins (IsUpdate levels_left) []
+  an_update = let an = an_arrowed levels_left (codes "a") in record { ending = a ∷ an.ending; value = an.value; derives = an.derives }
 
   to : (x : List ℕ) (r : ℕ) (ys : List Terminal) (f : FormulaSyntax) → IsArrowed x r ys f → IsUpdate r (free x ∷ ys) f
   to x r (mark LeftArrow ∷ ys) f h = h
@@ -171,8 +171,8 @@ update_exact room low b = by_first (end_wrong refl an_update (λ r v h. h)) turn
   from x r (mark LeftArrow ∷ ys) f h = (f, h, refl)
   from x r _ f h = absurd h
 
-  turn : (y : Terminal) → Turn IsUpdate Any room (update_with low) y
-  turn (free x) = turn_takes (λ f. f) (assigned low x) (update_is low x) (λ y h. h) (to x) (from x) (assigned_exact room low b x)
+  turn : (y : Terminal) → Turn IsUpdate Any levels_left (update_with low) y
+  turn (free x) = turn_takes (λ f. f) (assigned low x) (update_is low x) (λ y h. h) (to x) (from x) (assigned_exact levels_left low b x)
   turn _ = turn_wrong (λ rest. refl) an_update (λ r ys f h. h)
 
 -- ---- atoms
@@ -188,7 +188,7 @@ AtomCase r _ f = ⊥
 atom_case : {r : ℕ} {xs : List Terminal} {f : FormulaSyntax} → IsAtom r xs f → AtomCase r xs f
 atom_case true_atom = (refl, refl)
 atom_case false_atom = (refl, refl)
-atom_case (brackets_atom {room = r} {xs = xs} {a = f} h) = (f, round_closed IsFormula r xs f h, refl)
+atom_case (brackets_atom {levels_left = r} {xs = xs} {a = f} h) = (f, round_closed IsFormula r xs f h, refl)
 atom_case (update {xs = xs} {t = t} x h) = (
   t,
   record {
@@ -233,22 +233,22 @@ case_atom r _ f h = absurd h
 brackets_below : (k : ℕ) (l : Level) → LevelExact k l → Exact (IsClosed is_close_round IsFormula) Any k (bracketed_formula l)
 brackets_below k l h = closed_exact is_close_round (mark CloseRound) refl (round_loose 0) lift_formulas h.formula
 
-atom_exact : (room : ℕ) (low : Option Level) → Below LevelExact room low → Exact IsAtom (Below_tie 6) room (atom_with low)
+atom_exact : (levels_left : ℕ) (low : Option Level) → Below LevelExact levels_left low → Exact IsAtom (Below_tie 6) levels_left (atom_with low)
 unfolding atom_with
-atom_exact room low b =
+atom_exact levels_left low b =
     exact_as case_atom (λ r xs f h. atom_case h) (λ x h. h) (by_first (end_wrong refl some_atom (λ r f h. h)) turn) where
-      some_atom : Begins (AtomCase room) []
+      some_atom : Begins (AtomCase levels_left) []
       some_atom = record { ending = a ∷ []; value = bare (codes "a"); derives = (None, nothing, refl) }
 
-      low_formula : Begins (IsClosed is_close_round IsFormula (suc room)) []
+      low_formula : Begins (IsClosed is_close_round IsFormula (suc levels_left)) []
       low_formula = record {
         ending = a ∷ mark CloseRound ∷ [];
         value = bare (codes "a");
         derives =
-            round_closed IsFormula (suc room) (a ∷ []) (bare (codes "a")) (a_formula (suc room));
+            round_closed IsFormula (suc levels_left) (a ∷ []) (bare (codes "a")) (a_formula (suc levels_left));
       }
 
-      turn : (x : Terminal) → Turn AtomCase (Below_tie 6) room (atom_with low) x
+      turn : (x : Terminal) → Turn AtomCase (Below_tie 6) levels_left (atom_with low) x
       turn (word True) = turn_alone truth (λ rest. refl) (λ r. (refl, refl)) (λ r ys f h. h)
       turn (word False) = turn_alone falsehood (λ rest. refl) (λ r. (refl, refl)) (λ r ys f h. h)
       turn (mark OpenRound) =
@@ -257,10 +257,10 @@ atom_exact room low b =
       turn (mark OpenSquare) =
           turn_takes (λ f. f) (update_with low) (λ rest. sym (map_same (update_with low rest))) (λ y h. tt) (λ r ys f h. h)
           (λ r ys f h. (f, h, refl))
-          (update_exact room low (terms_below room low b))
+          (update_exact levels_left low (terms_below levels_left low b))
       turn (free p) =
           turn_takes (atom_named p) (after_name low) (λ rest. refl) (λ y h. h) (λ r ys o h. (o, h, refl)) (λ r ys f h. h)
-          (after_name_exact room low (terms_below room low b))
+          (after_name_exact levels_left low (terms_below levels_left low b))
       turn _ = turn_wrong (λ rest. refl) some_atom (λ r ys f h. h)
 
 -- ---- prefixes
@@ -295,12 +295,12 @@ case_prefix r (x ∷ ys) f h = by (unary_of x) refl r h where
   by (Some op) e zero h = absurd h.1
   by (Some op) e (suc r) h = rw h.2 (prefix op x e h.1)
 
-pub prefix_exact : (room : ℕ) (low : Option Level) → Below LevelExact room low → Exact IsPrefix (Below_tie 6) room (prefix_with low)
+pub prefix_exact : (levels_left : ℕ) (low : Option Level) → Below LevelExact levels_left low → Exact IsPrefix (Below_tie 6) levels_left (prefix_with low)
 unfolding prefix_with prefix_from atom_with
-prefix_exact room low b =
+prefix_exact levels_left low b =
     exact_as case_prefix (λ r xs f h. prefix_case h) (λ x h. h)
     (by_first (end_wrong wrong_end some_prefix (λ r f h. h)) (λ x. by x (unary_of x) refl)) where
-      some_prefix : Begins (PrefixCase room) []
+      some_prefix : Begins (PrefixCase levels_left) []
       some_prefix = record { ending = a ∷ []; value = bare (codes "a"); derives = bare_name (codes "a") }
 
       wrong_end : prefix_with low [] ≡ form_at []
@@ -310,15 +310,15 @@ prefix_exact room low b =
           prefix_with low (x ∷ rest) ≡ prefix_from low found (x ∷ rest)
       as_from x found e rest = ap (λ o. prefix_from low o (x ∷ rest)) e
 
-      by : (x : Terminal) (found : Option UnaryOperator) → unary_of x ≡ found → Turn PrefixCase (Below_tie 6) room (prefix_with low) x
+      by : (x : Terminal) (found : Option UnaryOperator) → unary_of x ≡ found → Turn PrefixCase (Below_tie 6) levels_left (prefix_with low) x
       by x None e =
           turn_as (λ f. f) (atom_with low) (λ rest. as_from x None e rest
           ∙ sym (map_same (atom_with low (x ∷ rest)))) (λ y h. h) (λ r ys f h. prefix_of_atom h)
-          (λ r ys f h. (f, is_atom r ys f h, refl)) (atom_exact room low b) where
+          (λ r ys f h. (f, is_atom r ys f h, refl)) (atom_exact levels_left low b) where
             is_atom : (r : ℕ) (ys : List Terminal) (f : FormulaSyntax) → PrefixFrom (unary_of x) x r ys f → IsAtom r (x ∷ ys) f
             is_atom r ys f h = rw e at h
       by x (Some op) e =
           turn_below {Holds = LevelExact} (under op) low (λ l. l.prefix) (λ k l h. h.prefix) b (as_from x (Some op) e)
           (λ y h. h) some_prefix
-          (a_prefix (suc room))
+          (a_prefix (suc levels_left))
           (λ r ys f h. rw e (f, h, refl)) (λ r ys f h. rw e at h)

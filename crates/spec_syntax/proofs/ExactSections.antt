@@ -130,9 +130,9 @@ brace_loose : (x : Terminal) → is_close_brace x ≡ true → tie x < 1
 brace_loose (mark CloseBrace) h = omega arith
 brace_loose _ h = cc
 
-item_stepping : (room : ℕ) → Stepping IsItemStep Ends IsCloseBrace room (item room) starts (λ s xs. found_or_wrong (item room s xs) xs)
+item_stepping : (levels_left : ℕ) → Stepping IsItemStep Ends IsCloseBrace levels_left (item levels_left) starts (λ s xs. found_or_wrong (item levels_left s xs) xs)
 unfolding item
-item_stepping room = record {
+item_stepping levels_left = record {
   at_end = at_end;
   none = none_here;
   some = some_here;
@@ -143,18 +143,18 @@ item_stepping room = record {
   weaker = weaker;
   turn = turn;
 } where
-  at_end : (s : Items) → item room s [] ≡ None
+  at_end : (s : Items) → item levels_left s [] ≡ None
   at_end (open_items fs) = refl
   at_end (item_last fs) = refl
 
-  none_here : (s : Items) (x : Terminal) (rest : List Terminal) → starts s x ≡ false → item room s (x ∷ rest) ≡ None
+  none_here : (s : Items) (x : Terminal) (rest : List Terminal) → starts s x ≡ false → item levels_left s (x ∷ rest) ≡ None
   none_here (open_items fs) (mark CloseBrace) rest e = refl
   none_here (open_items fs) _ rest e = cc
   none_here (item_last fs) (mark Semicolon) rest e = cc
   none_here (item_last fs) _ rest e = refl
 
   some_here : (s : Items) (x : Terminal) (rest : List Terminal) → starts s x ≡ true →
-      item room s (x ∷ rest) ≡ Some (found_or_wrong (item room s (x ∷ rest)) (x ∷ rest))
+      item levels_left s (x ∷ rest) ≡ Some (found_or_wrong (item levels_left s (x ∷ rest)) (x ∷ rest))
   some_here (open_items fs) (mark CloseBrace) rest e = cc
   some_here (open_items fs) _ rest e = refl
   some_here (item_last fs) (mark Semicolon) rest e = refl
@@ -186,19 +186,19 @@ item_stepping room = record {
   weaker (open_items fs) x e = brace_loose x e
   weaker (item_last fs) x e = tt
 
-  formula : Exact IsFormula (Below_tie 1) room (formula_with (lower room))
-  formula = formula_exact room (lower room) (below_exact room)
+  formula : Exact IsFormula (Below_tie 1) levels_left (formula_with (lower levels_left))
+  formula = formula_exact levels_left (lower levels_left) (below_exact levels_left)
 
-  turn : (s : Items) (x : Terminal) → starts s x ≡ true → Turn (IsItemStep s) (Ends s) room (λ xs. found_or_wrong (item room s xs) xs) x
+  turn : (s : Items) (x : Terminal) → starts s x ≡ true → Turn (IsItemStep s) (Ends s) levels_left (λ xs. found_or_wrong (item levels_left s xs) xs) x
   turn (open_items fs) (mark CloseBrace) e = cc
   turn (open_items fs) _ e =
-      turn_as (λ f. item_last (fs ++ f ∷ [])) (formula_with (lower room)) (λ rest. refl) (λ y h. h) (λ r ys f h. (f, h, refl))
+      turn_as (λ f. item_last (fs ++ f ∷ [])) (formula_with (lower levels_left)) (λ rest. refl) (λ y h. h) (λ r ys f h. (f, h, refl))
       (λ r ys t h. h) formula
   turn (item_last fs) (mark Semicolon) e = turn_alone (open_items fs) (λ rest. refl) (λ r. (refl, refl)) (λ r ys t h. h)
   turn (item_last fs) _ e = cc
 
-pub item_shrinks : (room : ℕ) → Shrinks (item room)
-item_shrinks room = step_shrinks (item_stepping room)
+pub item_shrinks : (levels_left : ℕ) → Shrinks (item levels_left)
+item_shrinks levels_left = step_shrinks (item_stepping levels_left)
 
 -- what follows a formula among items
 data AreFurther (r : ℕ) : List Terminal → List FormulaSyntax → Type 0 where
@@ -242,9 +242,9 @@ encode {r = r} (item_of {xs = xs} {ys = ys} {f = f} {fs = gs} h k) fs =
     let semicolon : IsItemStep (item_last (fs ++ f ∷ [])) r (mark Semicolon ∷ []) (open_items (fs ++ f ∷ [])) = (refl, refl) in
     (rest.0, more step (more {f = mark Semicolon ∷ []} semicolon rest.1), rest.2 ∙ append_assoc fs (f ∷ []) gs)
 
-formulas_exact : (room : ℕ) → Exact AreItems IsCloseBrace room (formulas room)
+formulas_exact : (levels_left : ℕ) → Exact AreItems IsCloseBrace levels_left (formulas levels_left)
 unfolding formulas
-formulas_exact room = exact_map items_of to from (iterate_exact (item_stepping room) (open_items [])) where
+formulas_exact levels_left = exact_map items_of to from (iterate_exact (item_stepping levels_left) (open_items [])) where
   to : (r : ℕ) (xs : List Terminal) (s : Items) → Steps IsItemStep r (open_items []) xs s → AreItems r xs (items_of s)
   to r xs s h = let is = decode r (open_items []) xs s h in rw is.2 is.1
 
@@ -273,8 +273,8 @@ SectionCase r (word Always ∷ ys) s = SideCase AssumeAlways GuaranteeAlways r y
 SectionCase r (word Initially ∷ ys) s = SideCase AssumeFirst GuaranteeFirst r ys s
 SectionCase r xs s = SideCase AssumeFirst GuaranteeFirst r xs s
 
-no_items : (room : ℕ) (part : Part) → Begins (ItemsCase part room) []
-no_items room part = record {
+no_items : (levels_left : ℕ) (part : Part) → Begins (ItemsCase part levels_left) []
+no_items levels_left part = record {
   ending = mark OpenBrace ∷ mark CloseBrace ∷ [];
   value = section_made part [];
   derives = (
@@ -292,29 +292,29 @@ no_items room part = record {
   );
 }
 
-items_exact : (room : ℕ) (part : Part) → Exact (ItemsCase part) Any room (items room part)
+items_exact : (levels_left : ℕ) (part : Part) → Exact (ItemsCase part) Any levels_left (items levels_left part)
 unfolding items
-items_exact room part = by_first (end_wrong refl (no_items room part) (λ r s h. h)) turn where
-  turn : (x : Terminal) → Turn (ItemsCase part) Any room (items room part) x
+items_exact levels_left part = by_first (end_wrong refl (no_items levels_left part) (λ r s h. h)) turn where
+  turn : (x : Terminal) → Turn (ItemsCase part) Any levels_left (items levels_left part) x
   turn (mark OpenBrace) =
-      turn_takes (section_made part) (closed_by is_close_brace (formulas room)) (λ rest. refl) (λ y h. h) (λ r ys fs h. (fs, h, refl))
+      turn_takes (section_made part) (closed_by is_close_brace (formulas levels_left)) (λ rest. refl) (λ y h. h) (λ r ys fs h. (fs, h, refl))
       (λ r ys s h. h)
-      (closed_exact is_close_brace (mark CloseBrace) refl (λ x h. h) (λ r xs fs h. lift_items (omega arith) h) (formulas_exact room))
-  turn _ = turn_wrong (λ rest. refl) (no_items room part) (λ r ys s h. h)
+      (closed_exact is_close_brace (mark CloseBrace) refl (λ x h. h) (λ r xs fs h. lift_items (omega arith) h) (formulas_exact levels_left))
+  turn _ = turn_wrong (λ rest. refl) (no_items levels_left part) (λ r ys s h. h)
 
-side_exact : (room : ℕ) (assumed guaranteed : Part) → Exact (SideCase assumed guaranteed) Any room (side room assumed guaranteed)
+side_exact : (levels_left : ℕ) (assumed guaranteed : Part) → Exact (SideCase assumed guaranteed) Any levels_left (side levels_left assumed guaranteed)
 unfolding side
-side_exact room assumed guaranteed = by_first (end_wrong refl some_side (λ r s h. h)) turn where
-  some_side : Begins (SideCase assumed guaranteed room) []
-  some_side = let none = no_items room assumed in record { ending = word Assume ∷ none.ending; value = none.value; derives = none.derives }
+side_exact levels_left assumed guaranteed = by_first (end_wrong refl some_side (λ r s h. h)) turn where
+  some_side : Begins (SideCase assumed guaranteed levels_left) []
+  some_side = let none = no_items levels_left assumed in record { ending = word Assume ∷ none.ending; value = none.value; derives = none.derives }
 
-  turn : (x : Terminal) → Turn (SideCase assumed guaranteed) Any room (side room assumed guaranteed) x
+  turn : (x : Terminal) → Turn (SideCase assumed guaranteed) Any levels_left (side levels_left assumed guaranteed) x
   turn (word Assume) =
-      turn_takes (λ s. s) (items room assumed) (λ rest. sym (map_same (items room assumed rest))) (λ y h. h) (λ r ys s h. h)
-      (λ r ys s h. (s, h, refl)) (items_exact room assumed)
+      turn_takes (λ s. s) (items levels_left assumed) (λ rest. sym (map_same (items levels_left assumed rest))) (λ y h. h) (λ r ys s h. h)
+      (λ r ys s h. (s, h, refl)) (items_exact levels_left assumed)
   turn (word Guarantee) =
-      turn_takes (λ s. s) (items room guaranteed) (λ rest. sym (map_same (items room guaranteed rest))) (λ y h. h) (λ r ys s h. h)
-      (λ r ys s h. (s, h, refl)) (items_exact room guaranteed)
+      turn_takes (λ s. s) (items levels_left guaranteed) (λ rest. sym (map_same (items levels_left guaranteed rest))) (λ y h. h) (λ r ys s h. h)
+      (λ r ys s h. (s, h, refl)) (items_exact levels_left guaranteed)
   turn _ = turn_wrong (λ rest. refl) some_side (λ r ys s h. h)
 
 as_section : (r : ℕ) (xs : List Terminal) (s : SectionSyntax) → SideCase AssumeFirst GuaranteeFirst r xs s → SectionCase r xs s
@@ -323,29 +323,29 @@ as_section r (word Initially ∷ ys) s h = absurd h
 as_section r [] s h = h
 as_section r _ s h = h
 
-section_at_exact : (room : ℕ) → Exact SectionCase Any room (section_at room)
+section_at_exact : (levels_left : ℕ) → Exact SectionCase Any levels_left (section_at levels_left)
 unfolding section_at side
-section_at_exact room = by_first (end_wrong refl some_section (λ r s h. h)) turn where
-  some_section : Begins (SectionCase room) []
-  some_section = let none = no_items room AssumeFirst in
+section_at_exact levels_left = by_first (end_wrong refl some_section (λ r s h. h)) turn where
+  some_section : Begins (SectionCase levels_left) []
+  some_section = let none = no_items levels_left AssumeFirst in
       record { ending = word Assume ∷ none.ending; value = none.value; derives = none.derives }
 
   after_word : (assumed guaranteed : Part) → (rest : List Terminal) →
-      side room assumed guaranteed rest ≡ map_read (λ s. s) (side room assumed guaranteed rest)
-  after_word assumed guaranteed rest = sym (map_same (side room assumed guaranteed rest))
+      side levels_left assumed guaranteed rest ≡ map_read (λ s. s) (side levels_left assumed guaranteed rest)
+  after_word assumed guaranteed rest = sym (map_same (side levels_left assumed guaranteed rest))
 
-  turn : (x : Terminal) → Turn SectionCase Any room (section_at room) x
+  turn : (x : Terminal) → Turn SectionCase Any levels_left (section_at levels_left) x
   turn (word Always) =
-      turn_takes (λ s. s) (side room AssumeAlways GuaranteeAlways) (after_word AssumeAlways GuaranteeAlways) (λ y h. h) (λ r ys s h. h)
+      turn_takes (λ s. s) (side levels_left AssumeAlways GuaranteeAlways) (after_word AssumeAlways GuaranteeAlways) (λ y h. h) (λ r ys s h. h)
       (λ r ys s h. (s, h, refl))
-      (side_exact room AssumeAlways GuaranteeAlways)
+      (side_exact levels_left AssumeAlways GuaranteeAlways)
   turn (word Initially) =
-      turn_takes (λ s. s) (side room AssumeFirst GuaranteeFirst) (after_word AssumeFirst GuaranteeFirst) (λ y h. h) (λ r ys s h. h)
+      turn_takes (λ s. s) (side levels_left AssumeFirst GuaranteeFirst) (after_word AssumeFirst GuaranteeFirst) (λ y h. h) (λ r ys s h. h)
       (λ r ys s h. (s, h, refl))
-      (side_exact room AssumeFirst GuaranteeFirst)
+      (side_exact levels_left AssumeFirst GuaranteeFirst)
   turn _ =
-      turn_as (λ s. s) (side room AssumeFirst GuaranteeFirst) (λ rest. sym (map_same _)) (λ y h. h) as_section (λ r ys s h. (s, h, refl))
-      (side_exact room AssumeFirst GuaranteeFirst)
+      turn_as (λ s. s) (side levels_left AssumeFirst GuaranteeFirst) (λ rest. sym (map_same _)) (λ y h. h) as_section (λ r ys s h. (s, h, refl))
+      (side_exact levels_left AssumeFirst GuaranteeFirst)
 
 closed_items : (r : ℕ) (xs : List Terminal) (fs : List FormulaSyntax) → AreItems r xs fs →
     IsClosed is_close_brace AreItems r (xs ++ mark CloseBrace ∷ []) fs
@@ -353,12 +353,12 @@ closed_items r xs fs h =
     record { value = fs; front = xs; tail = mark CloseBrace ∷ []; split = refl; first = h; second = (mark CloseBrace, refl, refl, refl) }
 
 pub section_case : {r : ℕ} {xs : List Terminal} {s : SectionSyntax} → IsSection r xs s → SectionCase r xs s
-section_case (braces {room = r} {ys = ys} {fs = fs} assume k) = (fs, closed_items r ys fs k, refl)
-section_case (braces {room = r} {ys = ys} {fs = fs} guarantee k) = (fs, closed_items r ys fs k, refl)
-section_case (braces {room = r} {ys = ys} {fs = fs} initially_assume k) = (fs, closed_items r ys fs k, refl)
-section_case (braces {room = r} {ys = ys} {fs = fs} initially_guarantee k) = (fs, closed_items r ys fs k, refl)
-section_case (braces {room = r} {ys = ys} {fs = fs} always_assume k) = (fs, closed_items r ys fs k, refl)
-section_case (braces {room = r} {ys = ys} {fs = fs} always_guarantee k) = (fs, closed_items r ys fs k, refl)
+section_case (braces {levels_left = r} {ys = ys} {fs = fs} assume k) = (fs, closed_items r ys fs k, refl)
+section_case (braces {levels_left = r} {ys = ys} {fs = fs} guarantee k) = (fs, closed_items r ys fs k, refl)
+section_case (braces {levels_left = r} {ys = ys} {fs = fs} initially_assume k) = (fs, closed_items r ys fs k, refl)
+section_case (braces {levels_left = r} {ys = ys} {fs = fs} initially_guarantee k) = (fs, closed_items r ys fs k, refl)
+section_case (braces {levels_left = r} {ys = ys} {fs = fs} always_assume k) = (fs, closed_items r ys fs k, refl)
+section_case (braces {levels_left = r} {ys = ys} {fs = fs} always_guarantee k) = (fs, closed_items r ys fs k, refl)
 
 with_items : (r : ℕ) (head : List Terminal) (part : Part) → IsHead head part → (xs : List Terminal) (s : SectionSyntax) →
     ItemsCase part r xs s → IsSection r (head ++ xs) s
@@ -382,14 +382,14 @@ case_section r (word Always ∷ word Guarantee ∷ ys) s h =
     with_items r (word Always ∷ word Guarantee ∷ []) GuaranteeAlways always_guarantee ys s h
 case_section r _ s h = absurd h
 
-pub section_exact : (room : ℕ) → Exact IsSection Any room (section_at room)
-section_exact room = exact_as case_section (λ r xs s h. section_case h) (λ y h. h) (section_at_exact room)
+pub section_exact : (levels_left : ℕ) → Exact IsSection Any levels_left (section_at levels_left)
+section_exact levels_left = exact_as case_section (λ r xs s h. section_case h) (λ y h. h) (section_at_exact levels_left)
 
 -- ---- whole texts
 
-section_member : (room : ℕ) → Member IsSection Any (λ x. ⊥) room (section room) (λ x. true) (section_at room)
+section_member : (levels_left : ℕ) → Member IsSection Any (λ x. ⊥) levels_left (section levels_left) (λ x. true) (section_at levels_left)
 unfolding section
-section_member room = record {
+section_member levels_left = record {
   at_end = refl;
   none = λ x rest e. cc;
   some = λ x rest e. refl;
@@ -398,7 +398,7 @@ section_member room = record {
   follows = λ x e. tt;
   stops = λ x h. absurd h;
   weaker = λ x h. tt;
-  turn = λ x e. turn_of (section_exact room) x;
+  turn = λ x e. turn_of (section_exact levels_left) x;
 } where
   some_case : (r : ℕ) (xs : List Terminal) (s : SectionSyntax) → SectionCase r xs s →
       (x : Terminal) × (ys : List Terminal) × (xs ≡ x ∷ ys) × (true ≡ true)
@@ -409,8 +409,8 @@ section_member room = record {
       (x : Terminal) × (ys : List Terminal) × (xs ≡ x ∷ ys) × (true ≡ true)
   begins r xs s h = some_case r xs s (section_case h)
 
-pub section_shrinks : (room : ℕ) → Shrinks (push (section room))
-section_shrinks room = step_shrinks (stepping (section_member room))
+pub section_shrinks : (levels_left : ℕ) → Shrinks (push (section levels_left))
+section_shrinks levels_left = step_shrinks (stepping (section_member levels_left))
 
 sections_of : (r : ℕ) (xs : List Terminal) (ss : List SectionSyntax) → AreAll IsSection r xs ss → AreSections r xs ss
 sections_of r xs ss none = no_section
@@ -421,35 +421,35 @@ all_sections no_section = none
 all_sections (section_of h k) = some h (all_sections k)
 
 -- a whole text is read exactly
-pub sections_exact : (room : ℕ) → Exact AreSections (λ x. ⊥) room (sections room)
+pub sections_exact : (levels_left : ℕ) → Exact AreSections (λ x. ⊥) levels_left (sections levels_left)
 unfolding sections
-sections_exact room = exact_as sections_of (λ r xs ss h. all_sections h) (λ x h. h) (members_exact (section_member room))
+sections_exact levels_left = exact_as sections_of (λ r xs ss h. all_sections h) (λ x h. h) (members_exact (section_member levels_left))
 
--- what derives as a whole text is read so, with more room too
-pub sections_read : (room : ℕ) (xs : List Terminal) (ss : List SectionSyntax) → AreSections room xs ss → sections room xs ≡ Ok (ss, [])
-sections_read room xs ss h = reads_all (sections_exact room) room (omega arith) xs ss h
+-- what derives as a whole text is read so, with more levels too
+pub sections_read : (levels_left : ℕ) (xs : List Terminal) (ss : List SectionSyntax) → AreSections levels_left xs ss → sections levels_left xs ≡ Ok (ss, [])
+sections_read levels_left xs ss h = reads_all (sections_exact levels_left) levels_left (omega arith) xs ss h
 
 -- a text derives in one way
-pub one_tree : (room : ℕ) (xs : List Terminal) (ss rs : List SectionSyntax) → AreSections room xs ss → AreSections room xs rs → ss ≡ rs
-one_tree room xs ss rs h k = one_value (sections_exact room) xs ss rs h k
+pub one_tree : (levels_left : ℕ) (xs : List Terminal) (ss rs : List SectionSyntax) → AreSections levels_left xs ss → AreSections levels_left xs rs → ss ≡ rs
+one_tree levels_left xs ss rs h k = one_value (sections_exact levels_left) xs ss rs h k
 
--- what is a text is one with more room
-pub more_room : (extra room : ℕ) (xs : List Terminal) (ss : List SectionSyntax) → AreSections room xs ss → AreSections (extra + room) xs ss
-more_room extra room xs ss h = lift_sections (omega arith) h
+-- what is a text is one with more levels
+pub more_room : (extra levels_left : ℕ) (xs : List Terminal) (ss : List SectionSyntax) → AreSections levels_left xs ss → AreSections (extra + levels_left) xs ss
+more_room extra levels_left xs ss h = lift_sections (omega arith) h
 
 -- nothing is left where a text is read
-pub all_read : (room : ℕ) (xs : List Terminal) (ss : List SectionSyntax) (rest : List Terminal) → sections room xs ≡ Ok (ss, rest) →
+pub all_read : (levels_left : ℕ) (xs : List Terminal) (ss : List SectionSyntax) (rest : List Terminal) → sections levels_left xs ≡ Ok (ss, rest) →
     rest ≡ []
 unfolding sections section
-all_read room xs ss [] h = refl
-all_read room xs ss (x ∷ rest) h =
-    let none : push (section room) ss (x ∷ rest) ≡ None = no_step_left (section_shrinks room) [] xs ss (x ∷ rest) h in
+all_read levels_left xs ss [] h = refl
+all_read levels_left xs ss (x ∷ rest) h =
+    let none : push (section levels_left) ss (x ∷ rest) ≡ None = no_step_left (section_shrinks levels_left) [] xs ss (x ∷ rest) h in
     cc
 
 -- what is read as a whole text derives so
-pub sections_derive : (room : ℕ) (xs : List Terminal) (ss : List SectionSyntax) (rest : List Terminal) → sections room xs ≡ Ok (ss, rest) →
-    AreSections room xs ss
-sections_derive room xs ss rest h =
-    let front = taken xs ((sections_exact room).run xs) ss rest h in
-    let whole : xs ≡ front.0 = front.1 ∙ ap (λ r. front.0 ++ r) (all_read room xs ss rest h) ∙ append-nil front.0 in
+pub sections_derive : (levels_left : ℕ) (xs : List Terminal) (ss : List SectionSyntax) (rest : List Terminal) → sections levels_left xs ≡ Ok (ss, rest) →
+    AreSections levels_left xs ss
+sections_derive levels_left xs ss rest h =
+    let front = taken xs ((sections_exact levels_left).run xs) ss rest h in
+    let whole : xs ≡ front.0 = front.1 ∙ ap (λ r. front.0 ++ r) (all_read levels_left xs ss rest h) ∙ append-nil front.0 in
     rw whole front.2

@@ -69,7 +69,7 @@ abbrev pub Below_tie : ℕ → Terminal → Type 0
 Below_tie n x = tie x < n
 
 abbrev pub TermExact : ℕ → Level → Type 0
-TermExact room l = Exact IsTerm (Below_tie 6) room l.term
+TermExact levels_left l = Exact IsTerm (Below_tie 6) levels_left l.term
 
 pub lift_terms : (r : ℕ) (xs : List Terminal) (t : TermSyntax) → IsTerm r xs t → IsTerm (suc (suc r)) xs t
 lift_terms r xs t h = lift_term (omega arith) h
@@ -121,8 +121,8 @@ abbrev IsOpened : Grammar Terminal (Option TermSyntax)
 IsOpened r (mark CloseRound ∷ ys) o = (ys ≡ []) × (o ≡ None)
 IsOpened r xs o = (t : TermSyntax) × IsBracketed r xs t × (o ≡ Some t)
 
-some_opened : (room : ℕ) → Begins (IsOpened room) []
-some_opened room = record { ending = mark CloseRound ∷ []; value = None; derives = (refl, refl) }
+some_opened : (levels_left : ℕ) → Begins (IsOpened levels_left) []
+some_opened levels_left = record { ending = mark CloseRound ∷ []; value = None; derives = (refl, refl) }
 
 as_opened : (r : ℕ) (xs : List Terminal) (t : TermSyntax) → IsBracketed r xs t → IsOpened r xs (Some t)
 as_opened r (mark CloseRound ∷ ys) t h = let begins : begins_term (mark CloseRound ∷ ys) ≡ true =
@@ -139,7 +139,7 @@ needs_room (suc r) xs t h = omega arith
 abbrev pub a : Terminal
 a = free (codes "a")
 
-opened_exact : (room : ℕ) (low : Option Level) → Below TermExact room low → Exact IsOpened Any room (opened low)
+opened_exact : (levels_left : ℕ) (low : Option Level) → Below TermExact levels_left low → Exact IsOpened Any levels_left (opened low)
 unfolding opened
 opened_exact zero (Some l) h = absurd h
 opened_exact (suc k) None h = absurd h
@@ -189,13 +189,13 @@ IsArgumentStep (term_last ts) r (mark OpenRound ∷ ys) t = (u : TermSyntax) × 
 IsArgumentStep s r (mark OpenRound ∷ ys) t = (o : Option TermSyntax) × IsOpened r ys o × (t ≡ with_brackets o s)
 IsArgumentStep s r _ t = ⊥
 
--- the room of the level below that a term needs
-low_term : (room : ℕ) → Begins (IsClosed is_close_round IsTerm (suc room)) []
-low_term room = record {
+-- the levels that are left below, which a term needs
+low_term : (levels_left : ℕ) → Begins (IsClosed is_close_round IsTerm (suc levels_left)) []
+low_term levels_left = record {
   ending = a ∷ mark CloseRound ∷ [];
   value = alone (codes "a");
   derives =
-      round_closed IsTerm (suc room) (a ∷ []) (alone (codes "a")) (signal (codes "a"));
+      round_closed IsTerm (suc levels_left) (a ∷ []) (alone (codes "a")) (signal (codes "a"));
 }
 
 lift_opened : (r : ℕ) (xs : List Terminal) (o : Option TermSyntax) → IsOpened r xs o → IsOpened (suc (suc r)) xs o
@@ -255,28 +255,28 @@ at_end low fresh = refl
 at_end low (name_last ts y) = refl
 at_end low (term_last ts) = refl
 
-turn : (room : ℕ) (low : Option Level) → Below TermExact room low → (s : Arguments) (x : Terminal) → starts_argument s x ≡ true →
-    Turn (IsArgumentStep s) Any room (λ xs. found_or_wrong (argument low s xs) xs) x
+turn : (levels_left : ℕ) (low : Option Level) → Below TermExact levels_left low → (s : Arguments) (x : Terminal) → starts_argument s x ≡ true →
+    Turn (IsArgumentStep s) Any levels_left (λ xs. found_or_wrong (argument low s xs) xs) x
 unfolding argument
-turn room low b fresh (free x) h = turn_alone (with_name fresh x) (λ rest. refl) (λ r. (refl, refl)) (λ r ys t e. e)
-turn room low b (name_last ts y) (free x) h = turn_alone (with_name (name_last ts y) x) (λ rest. refl) (λ r. (refl, refl)) (λ r ys t e. e)
-turn room low b (term_last ts) (free x) h = turn_alone (with_name (term_last ts) x) (λ rest. refl) (λ r. (refl, refl)) (λ r ys t e. e)
-turn room low b fresh (mark OpenRound) h =
+turn levels_left low b fresh (free x) h = turn_alone (with_name fresh x) (λ rest. refl) (λ r. (refl, refl)) (λ r ys t e. e)
+turn levels_left low b (name_last ts y) (free x) h = turn_alone (with_name (name_last ts y) x) (λ rest. refl) (λ r. (refl, refl)) (λ r ys t e. e)
+turn levels_left low b (term_last ts) (free x) h = turn_alone (with_name (term_last ts) x) (λ rest. refl) (λ r. (refl, refl)) (λ r ys t e. e)
+turn levels_left low b fresh (mark OpenRound) h =
     turn_takes (λ o. with_brackets o fresh) (opened low) (λ rest. refl) (λ y e. e) (λ r ys o e. (o, e, refl)) (λ r ys t e. e)
-    (opened_exact room low b)
-turn room low b (name_last ts y) (mark OpenRound) h =
+    (opened_exact levels_left low b)
+turn levels_left low b (name_last ts y) (mark OpenRound) h =
     turn_takes (λ o. with_brackets o (name_last ts y)) (opened low) (λ rest. refl) (λ z e. e) (λ r ys o e. (o, e, refl)) (λ r ys t e. e)
-    (opened_exact room low b)
-turn room low b (term_last ts) (mark OpenRound) h =
+    (opened_exact levels_left low b)
+turn levels_left low b (term_last ts) (mark OpenRound) h =
     turn_below {Holds = TermExact} (with_term (term_last ts)) low bracketed_term brackets_exact b (λ rest. refl) (λ y e. e)
-    (record { ending = a ∷ []; value = with_name (term_last ts) (codes "a"); derives = (refl, refl) }) (low_term room)
+    (record { ending = a ∷ []; value = with_name (term_last ts) (codes "a"); derives = (refl, refl) }) (low_term levels_left)
     (λ r ys u e. (u, e, refl)) (λ r ys t e. e)
-turn room low b empty x h = cc
-turn room low b _ _ h = cc
+turn levels_left low b empty x h = cc
+turn levels_left low b _ _ h = cc
 
-pub stepping : (room : ℕ) (low : Option Level) → Below TermExact room low →
-    Stepping IsArgumentStep (λ s. Any) (Below_tie 6) room (argument low) starts_argument (λ s xs. found_or_wrong (argument low s xs) xs)
-stepping room low b = record {
+pub stepping : (levels_left : ℕ) (low : Option Level) → Below TermExact levels_left low →
+    Stepping IsArgumentStep (λ s. Any) (Below_tie 6) levels_left (argument low) starts_argument (λ s xs. found_or_wrong (argument low s xs) xs)
+stepping levels_left low b = record {
   at_end = at_end low;
   none = no_step low;
   some = some_step low;
@@ -285,7 +285,7 @@ stepping room low b = record {
   follows = λ s r xs t h x e. tt;
   stops = stops;
   weaker = λ s x h. tt;
-  turn = turn room low b;
+  turn = turn levels_left low b;
 } where
   stops : (s : Arguments) (x : Terminal) → tie x < 6 → starts_argument s x ≡ false
   stops empty x h = refl
@@ -441,7 +441,7 @@ encode r s ok xs us (some {g = g} {vs = vs} (constant_argument c) k) =
           e.goes_on;
       terms = e.terms ∙ append_assoc (complete s) (applied c no_terms ∷ []) vs;
     }
-encode r s ok xs us (some {g = g} {vs = vs} (brackets_argument {room = low} {xs = inner} {t = t} h) k) =
+encode r s ok xs us (some {g = g} {vs = vs} (brackets_argument {levels_left = low} {xs = inner} {t = t} h) k) =
     let e : Encoded r (with_term s t) g vs = encode r (with_term s t) tt g vs k in
     record {
       state = e.state;
@@ -467,9 +467,9 @@ steps_after_name r xs o (some_arguments {t = t} {ts = ts} h) =
     let e : Encoded r fresh xs (t ∷ ts) = encode r fresh tt xs (t ∷ ts) (all_arguments h) in
     (e.state, e.steps, some_complete e.state t ts e.goes_on e.terms)
 
-pub after_name_exact : (room : ℕ) (low : Option Level) → Below TermExact room low → Exact AreAfterName (Below_tie 6) room (after_name low)
+pub after_name_exact : (levels_left : ℕ) (low : Option Level) → Below TermExact levels_left low → Exact AreAfterName (Below_tie 6) levels_left (after_name low)
 unfolding after_name
-after_name_exact room low b = exact_map arguments_of (decoded) steps_after_name (iterate_exact (stepping room low b) fresh) where
+after_name_exact levels_left low b = exact_map arguments_of (decoded) steps_after_name (iterate_exact (stepping levels_left low b) fresh) where
   decoded : (r : ℕ) (xs : List Terminal) (u : Arguments) → Steps IsArgumentStep r fresh xs u → AreAfterName r xs (arguments_of u)
   decoded r xs u h = decode r fresh xs u h
 
@@ -486,7 +486,7 @@ term_case : {r : ℕ} {xs : List Terminal} {t : TermSyntax} → IsTerm r xs t �
 term_case (signal x) = (None, nothing, refl)
 term_case (constant c) = (Some [], no_arguments, refl)
 term_case (application {t = t} {ts = ts} f h) = (Some (t ∷ ts), some_arguments h, refl)
-term_case (brackets {room = room} {xs = xs} {t = t} h) = (t, round_closed IsTerm room xs t h, refl)
+term_case (brackets {levels_left = levels_left} {xs = xs} {t = t} h) = (t, round_closed IsTerm levels_left xs t h, refl)
 
 term_of_name : (r : ℕ) (f : List ℕ) (xs : List Terminal) (o : Option (List TermSyntax)) → AreAfterName r xs o →
     IsTerm r (free f ∷ xs) (term_named f o)
@@ -501,18 +501,18 @@ case_term (suc r) (mark OpenRound ∷ ys) t h = let inner = closed_round IsTerm 
 case_term r _ t h = absurd h
 
 -- a term is read exactly
-pub term_exact : (room : ℕ) (low : Option Level) → Below TermExact room low → Exact IsTerm (Below_tie 6) room (term_with low)
+pub term_exact : (levels_left : ℕ) (low : Option Level) → Below TermExact levels_left low → Exact IsTerm (Below_tie 6) levels_left (term_with low)
 unfolding term_with
-term_exact room low b =
+term_exact levels_left low b =
     exact_as case_term (λ r xs t h. term_case h) (λ x h. h) (by_first (end_wrong refl some_term (λ r t h. h)) turn) where
-      some_term : Begins (TermCase room) []
+      some_term : Begins (TermCase levels_left) []
       some_term = record { ending = a ∷ []; value = alone (codes "a"); derives = (None, nothing, refl) }
 
-      turn : (x : Terminal) → Turn TermCase (Below_tie 6) room (term_with low) x
+      turn : (x : Terminal) → Turn TermCase (Below_tie 6) levels_left (term_with low) x
       turn (free f) = turn_takes (term_named f) (after_name low) (λ rest. refl) (λ y h. h) (λ r ys o h. (o, h, refl)) (λ r ys t h. h)
-          (after_name_exact room low b)
+          (after_name_exact levels_left low b)
       turn (mark OpenRound) =
           turn_below {Holds = TermExact} grouped_term low bracketed_term brackets_exact b (λ rest. refl)
-          (λ y h. tt) some_term (low_term room)
+          (λ y h. tt) some_term (low_term levels_left)
           (λ r ys t h. (t, h, refl)) (λ r ys t h. h)
       turn _ = turn_wrong (λ rest. refl) some_term (λ r ys t h. h)

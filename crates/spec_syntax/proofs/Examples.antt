@@ -177,9 +177,9 @@ arrows_derive : AreSections 2 (guaranteed (a ∷ mark Arrow ∷ b ∷ mark Arrow
 arrows_derive = sections_derive 2 _ _ [] arrows_are_right
 
 -- and `guarantee { a U b U c }` with no number of levels, nor any text that begins with `guarantee { a U b U`
-no_chain_derives : (room : ℕ) → NoTextBegins room (word Guarantee ∷ mark OpenBrace ∷ a ∷ word U ∷ b ∷ word U ∷ [])
-no_chain_derives room = form_stops_all 5 _ 3 no_chain_of_until (word Guarantee ∷ mark OpenBrace ∷ a ∷ word U ∷ b ∷ []) (word U)
-    (c ∷ mark CloseBrace ∷ []) refl refl room
+no_chain_derives : (levels_left : ℕ) → NoTextBegins levels_left (word Guarantee ∷ mark OpenBrace ∷ a ∷ word U ∷ b ∷ word U ∷ [])
+no_chain_derives levels_left = form_stops_all 5 _ 3 no_chain_of_until (word Guarantee ∷ mark OpenBrace ∷ a ∷ word U ∷ b ∷ []) (word U)
+    (c ∷ mark CloseBrace ∷ []) refl refl levels_left
 
 -- `guarantee { ! X a }` derives with no text of one level
 no_third_level_derives : NoTextBegins 1 (word Guarantee ∷ mark OpenBrace ∷ mark Not ∷ word X ∷ [])

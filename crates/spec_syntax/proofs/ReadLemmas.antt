@@ -37,15 +37,15 @@ use Rattle.spec_syntax.specs.Reading.{
   update_with,
 }
 
-pub no_level : (room : ℕ) → room ≡ 0 → lower room ≡ None
+pub no_level : (levels_left : ℕ) → levels_left ≡ 0 → lower levels_left ≡ None
 unfolding lower
 no_level zero h = refl
-no_level (suc room) h = cc
+no_level (suc levels_left) h = cc
 
-pub one_level : (room below : ℕ) → room ≡ below + 1 → lower room ≡ Some (above (lower below))
+pub one_level : (levels_left below : ℕ) → levels_left ≡ below + 1 → lower levels_left ≡ Some (above (lower below))
 unfolding lower
 one_level zero below h = absurd (omega (arith, h))
-one_level (suc room) below h = let e : room ≡ below = omega (arith, h) in rw e refl
+one_level (suc levels_left) below h = let e : levels_left ≡ below = omega (arith, h) in rw e refl
 
 -- a fault that is passed on
 pub passed_on : {U V : Type 0} (view : U → V) (reader : Reader Terminal V) (xs : List LentTerminal)
@@ -179,10 +179,10 @@ unfolding opened
 opened_beyond (mark CloseRound ∷ xs) h = cc
 opened_beyond xs h = refl
 
-pub not_opened : (room : ℕ) (xs : List LentTerminal) (fault : ReadFault) → lower room ≡ None → begins_close (terminals_view xs) ≡ false →
+pub not_opened : (levels_left : ℕ) (xs : List LentTerminal) (fault : ReadFault) → lower levels_left ≡ None → begins_close (terminals_view xs) ≡ false →
     fault ≡ (if begins_term (terminals_view xs) then Deep (length xs) else Form (length xs)) →
-    HasSyntaxFault (opened (lower room) (terminals_view xs)) fault
-not_opened room xs fault none h e = rw (none, opened_beyond (terminals_view xs) h) (beyond_fault (Option TermSyntax) xs fault e)
+    HasSyntaxFault (opened (lower levels_left) (terminals_view xs)) fault
+not_opened levels_left xs fault none h e = rw (none, opened_beyond (terminals_view xs) h) (beyond_fault (Option TermSyntax) xs fault e)
 
 opened_is : (low : Option Level) (l : Level) (xs : List Terminal) → low ≡ Some l → begins_close xs ≡ false →
     opened low xs ≡ map_read (λ t. Some t) (bracketed_term l xs)
@@ -191,17 +191,17 @@ opened_is None l xs e h = cc
 opened_is (Some m) l (mark CloseRound ∷ xs) e h = cc
 opened_is (Some m) l xs e h = let same : m ≡ l = cc in rw same refl
 
-pub opened_read : (room below : ℕ) (xs : List Terminal) (t : TermSyntax) (rest : List Terminal) → lower room ≡ Some (above (lower below)) →
+pub opened_read : (levels_left below : ℕ) (xs : List Terminal) (t : TermSyntax) (rest : List Terminal) → lower levels_left ≡ Some (above (lower below)) →
     begins_close xs ≡ false →
-    bracketed_term (above (lower below)) xs ≡ Ok (t, rest) → opened (lower room) xs ≡ Ok (Some t, rest)
-opened_read room below xs t rest e h k =
-    opened_is (lower room) (above (lower below)) xs e h ∙ ap (map_read (λ t. Some t)) k
+    bracketed_term (above (lower below)) xs ≡ Ok (t, rest) → opened (lower levels_left) xs ≡ Ok (Some t, rest)
+opened_read levels_left below xs t rest e h k =
+    opened_is (lower levels_left) (above (lower below)) xs e h ∙ ap (map_read (λ t. Some t)) k
 
-pub opened_fault : (room below : ℕ) (xs : List Terminal) (fault : ReadFault) → lower room ≡ Some (above (lower below)) →
+pub opened_fault : (levels_left below : ℕ) (xs : List Terminal) (fault : ReadFault) → lower levels_left ≡ Some (above (lower below)) →
     begins_close xs ≡ false →
-    HasSyntaxFault (bracketed_term (above (lower below)) xs) fault → HasSyntaxFault (opened (lower room) xs) fault
-opened_fault room below xs fault e h k =
-    rw (opened_is (lower room) (above (lower below)) xs e h) (map_fault (λ t. Some t) (bracketed_term (above (lower below)) xs) fault k)
+    HasSyntaxFault (bracketed_term (above (lower below)) xs) fault → HasSyntaxFault (opened (lower levels_left) xs) fault
+opened_fault levels_left below xs fault e h k =
+    rw (opened_is (lower levels_left) (above (lower below)) xs e h) (map_fault (λ t. Some t) (bracketed_term (above (lower below)) xs) fault k)
 
 -- ---- an update
 
@@ -221,30 +221,30 @@ unclosed_update l name xs t rest fault h k =
 
 -- ---- the items of a section between their braces
 
-pub items_read : (room : ℕ) (part : Part) (xs : List Terminal) (fs : List FormulaSyntax) (rest after : List Terminal) →
-    formulas room xs ≡ Ok (fs, rest) → closing is_close_brace (tt {0}) rest ≡ Ok (tt {0}, after) →
-    items room part (mark OpenBrace ∷ xs) ≡ Ok (section_made part fs, after)
+pub items_read : (levels_left : ℕ) (part : Part) (xs : List Terminal) (fs : List FormulaSyntax) (rest after : List Terminal) →
+    formulas levels_left xs ≡ Ok (fs, rest) → closing is_close_brace (tt {0}) rest ≡ Ok (tt {0}, after) →
+    items levels_left part (mark OpenBrace ∷ xs) ≡ Ok (section_made part fs, after)
 unfolding items
-items_read room part xs fs rest after h k =
-    ap (map_read (section_made part)) (closed_read is_close_brace (formulas room) xs fs rest after h k)
+items_read levels_left part xs fs rest after h k =
+    ap (map_read (section_made part)) (closed_read is_close_brace (formulas levels_left) xs fs rest after h k)
 
-pub items_unclosed : (room : ℕ) (part : Part) (xs : List Terminal) (fs : List FormulaSyntax) (rest : List Terminal) (fault : ReadFault) →
-    formulas room xs ≡ Ok (fs, rest) → HasSyntaxFault (closing is_close_brace (tt {0}) rest) fault →
-    HasSyntaxFault (items room part (mark OpenBrace ∷ xs)) fault
+pub items_unclosed : (levels_left : ℕ) (part : Part) (xs : List Terminal) (fs : List FormulaSyntax) (rest : List Terminal) (fault : ReadFault) →
+    formulas levels_left xs ≡ Ok (fs, rest) → HasSyntaxFault (closing is_close_brace (tt {0}) rest) fault →
+    HasSyntaxFault (items levels_left part (mark OpenBrace ∷ xs)) fault
 unfolding items
-items_unclosed room part xs fs rest fault h k =
-    map_fault (section_made part) (closed_by is_close_brace (formulas room) xs) fault
-    (closed_fault is_close_brace (formulas room) xs fs rest fault h k)
+items_unclosed levels_left part xs fs rest fault h k =
+    map_fault (section_made part) (closed_by is_close_brace (formulas levels_left) xs) fault
+    (closed_fault is_close_brace (formulas levels_left) xs fs rest fault h k)
 
 -- ---- a form of the level below
 
 -- after the first terminal
-pub form_after_first : (room below : ℕ) (kind : GrammarForm) (xs : List LentTerminal) → lower room ≡ Some (above (lower below)) →
+pub form_after_first : (levels_left below : ℕ) (kind : GrammarForm) (xs : List LentTerminal) → lower levels_left ≡ Some (above (lower below)) →
     1 ≤ length xs →
-    below_level (lower room) (reader_of kind) (terminals_view xs)
+    below_level (lower levels_left) (reader_of kind) (terminals_view xs)
     ≡ form_with kind (lower below) (terminals_view (take (length xs - 1) (drop 1 xs)))
 unfolding above
-form_after_first room below kind xs h k = rw (h, (after_first xs k).1) (by_form kind)
+form_after_first levels_left below kind xs h k = rw (h, (after_first xs k).1) (by_form kind)
   where
     by_form : (kind : GrammarForm) → reader_of kind (above (lower below)) (terminals_view (take (length xs - 1) (drop 1 xs)))
         ≡ form_with kind (lower below) (terminals_view (take (length xs - 1) (drop 1 xs)))

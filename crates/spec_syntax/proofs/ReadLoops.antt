@@ -76,38 +76,38 @@ module _ {U V : Type 0} (view : U → V) (member : List Terminal → Option (Ans
       member xs ≡ Some answer → HasSyntaxFault answer fault → HasSyntaxFault whole fault
   member_found_fault xs vs whole answer fault h k e = members_fault xs vs whole fault h (rw k (member_fault answer fault e))
 
-pub further_shrinks : (op : ManyOperator) (room : ℕ) → Shrinks (push (further op (operand_with op (lower room))))
-further_shrinks Conjunction room = step_shrinks (list_stepping (further_member and_facts room (prefix_exact room (lower room) (below_exact room))))
-further_shrinks Disjunction room = step_shrinks (list_stepping (further_member or_facts room (and_exact room (lower room) (below_exact room))))
+pub further_shrinks : (op : ManyOperator) (levels_left : ℕ) → Shrinks (push (further op (operand_with op (lower levels_left))))
+further_shrinks Conjunction levels_left = step_shrinks (list_stepping (further_member and_facts levels_left (prefix_exact levels_left (lower levels_left) (below_exact levels_left))))
+further_shrinks Disjunction levels_left = step_shrinks (list_stepping (further_member or_facts levels_left (and_exact levels_left (lower levels_left) (below_exact levels_left))))
 
 -- ---- what follows a name
 
-arguments_shrink : (room : ℕ) → Shrinks (argument (lower room))
-arguments_shrink room = step_shrinks (argument_stepping room (lower room) (terms_below room (lower room) (below_exact room)))
+arguments_shrink : (levels_left : ℕ) → Shrinks (argument (lower levels_left))
+arguments_shrink levels_left = step_shrinks (argument_stepping levels_left (lower levels_left) (terms_below levels_left (lower levels_left) (below_exact levels_left)))
 
-argument_is : (room : ℕ) (s : Arguments) (xs : List Terminal) → goes_on s xs ≡ true →
-    argument (lower room) s xs ≡ Some (found_or_wrong (argument (lower room) s xs) xs)
-argument_is room s [] h = cc
-argument_is room s (x ∷ rest) h = some_argument (lower room) s x rest h
+argument_is : (levels_left : ℕ) (s : Arguments) (xs : List Terminal) → goes_on s xs ≡ true →
+    argument (lower levels_left) s xs ≡ Some (found_or_wrong (argument (lower levels_left) s xs) xs)
+argument_is levels_left s [] h = cc
+argument_is levels_left s (x ∷ rest) h = some_argument (lower levels_left) s x rest h
 
-no_argument_is : (room : ℕ) (s : Arguments) (xs : List Terminal) → goes_on s xs ≡ false → argument (lower room) s xs ≡ None
-no_argument_is room s [] h = at_end (lower room) s
-no_argument_is room s (x ∷ rest) h = no_argument (lower room) s x rest h
+no_argument_is : (levels_left : ℕ) (s : Arguments) (xs : List Terminal) → goes_on s xs ≡ false → argument (lower levels_left) s xs ≡ None
+no_argument_is levels_left s [] h = at_end (lower levels_left) s
+no_argument_is levels_left s (x ∷ rest) h = no_argument (lower levels_left) s x rest h
 
-pub arguments_more : (room : ℕ) (s t : Arguments) (xs rest : List Terminal) → goes_on s xs ≡ true →
-    argument_wanted (lower room) s xs ≡ Ok (t, rest) →
-    iterate (argument (lower room)) t rest ≡ iterate (argument (lower room)) s xs
-arguments_more room s t xs rest h k = next_step (arguments_shrink room) s xs t rest (argument_is room s xs h ∙ ap Some k)
+pub arguments_more : (levels_left : ℕ) (s t : Arguments) (xs rest : List Terminal) → goes_on s xs ≡ true →
+    argument_wanted (lower levels_left) s xs ≡ Ok (t, rest) →
+    iterate (argument (lower levels_left)) t rest ≡ iterate (argument (lower levels_left)) s xs
+arguments_more levels_left s t xs rest h k = next_step (arguments_shrink levels_left) s xs t rest (argument_is levels_left s xs h ∙ ap Some k)
 
-pub arguments_shorten : (room : ℕ) (s t : Arguments) (xs rest : List LentTerminal) → goes_on s (terminals_view xs) ≡ true →
-    argument_wanted (lower room) s (terminals_view xs) ≡ Ok (t, terminals_view rest) → length rest < length xs
-arguments_shorten room s t xs rest h k =
-    seen_shorter xs rest (arguments_shrink room s (terminals_view xs) t (terminals_view rest)
-    (argument_is room s (terminals_view xs) h ∙ ap Some k))
+pub arguments_shorten : (levels_left : ℕ) (s t : Arguments) (xs rest : List LentTerminal) → goes_on s (terminals_view xs) ≡ true →
+    argument_wanted (lower levels_left) s (terminals_view xs) ≡ Ok (t, terminals_view rest) → length rest < length xs
+arguments_shorten levels_left s t xs rest h k =
+    seen_shorter xs rest (arguments_shrink levels_left s (terminals_view xs) t (terminals_view rest)
+    (argument_is levels_left s (terminals_view xs) h ∙ ap Some k))
 
-pub arguments_end : (room : ℕ) (s : Arguments) (xs : List Terminal) → goes_on s xs ≡ false →
-    iterate (argument (lower room)) s xs ≡ Ok (s, xs)
-arguments_end room s xs h = no_step (arguments_shrink room) s xs (no_argument_is room s xs h)
+pub arguments_end : (levels_left : ℕ) (s : Arguments) (xs : List Terminal) → goes_on s xs ≡ false →
+    iterate (argument (lower levels_left)) s xs ≡ Ok (s, xs)
+arguments_end levels_left s xs h = no_step (arguments_shrink levels_left) s xs (no_argument_is levels_left s xs h)
 
 found_fault : {V : Type 0} (found : Option (Answer Terminal V)) (xs : List Terminal) (fault : ReadFault) →
     found ≡ Some (found_or_wrong found xs) →
@@ -115,86 +115,86 @@ found_fault : {V : Type 0} (found : Option (Answer Terminal V)) (xs : List Termi
 found_fault None xs fault e h = cc
 found_fault (Some answer) xs fault e h = member_fault answer fault h
 
-pub arguments_fault : (room : ℕ) (s : Arguments) (xs ys : List Terminal) (fault : ReadFault) → goes_on s xs ≡ true →
-    HasSyntaxFault (argument_wanted (lower room) s xs) fault →
-    iterate (argument (lower room)) s xs ≡ iterate (argument (lower room)) fresh ys →
-    HasSyntaxFault (map_read arguments_of (iterate (argument (lower room)) fresh ys)) fault
-arguments_fault room s xs ys fault h k e =
-    map_fault arguments_of (iterate (argument (lower room)) fresh ys) fault
-    (rw (← e) (step_fault (arguments_shrink room) s xs fault
-    (found_fault (argument (lower room) s xs) xs fault (argument_is room s xs h) k)))
+pub arguments_fault : (levels_left : ℕ) (s : Arguments) (xs ys : List Terminal) (fault : ReadFault) → goes_on s xs ≡ true →
+    HasSyntaxFault (argument_wanted (lower levels_left) s xs) fault →
+    iterate (argument (lower levels_left)) s xs ≡ iterate (argument (lower levels_left)) fresh ys →
+    HasSyntaxFault (map_read arguments_of (iterate (argument (lower levels_left)) fresh ys)) fault
+arguments_fault levels_left s xs ys fault h k e =
+    map_fault arguments_of (iterate (argument (lower levels_left)) fresh ys) fault
+    (rw (← e) (step_fault (arguments_shrink levels_left) s xs fault
+    (found_fault (argument (lower levels_left) s xs) xs fault (argument_is levels_left s xs h) k)))
 
 -- ---- the items of a section
 
-item_is : (room : ℕ) (fs : List FormulaSyntax) (xs : List Terminal) → begins_item xs ≡ true →
-    item room (open_items fs) xs ≡ Some (map_read (λ f. item_last (fs ++ f ∷ [])) (formula_with (lower room) xs))
+item_is : (levels_left : ℕ) (fs : List FormulaSyntax) (xs : List Terminal) → begins_item xs ≡ true →
+    item levels_left (open_items fs) xs ≡ Some (map_read (λ f. item_last (fs ++ f ∷ [])) (formula_with (lower levels_left) xs))
 unfolding item
-item_is room fs [] h = cc
-item_is room fs (mark CloseBrace ∷ xs) h = cc
-item_is room fs _ h = refl
+item_is levels_left fs [] h = cc
+item_is levels_left fs (mark CloseBrace ∷ xs) h = cc
+item_is levels_left fs _ h = refl
 
-no_item_is : (room : ℕ) (fs : List FormulaSyntax) (xs : List Terminal) → begins_item xs ≡ false → item room (open_items fs) xs ≡ None
+no_item_is : (levels_left : ℕ) (fs : List FormulaSyntax) (xs : List Terminal) → begins_item xs ≡ false → item levels_left (open_items fs) xs ≡ None
 unfolding item
-no_item_is room fs [] h = refl
-no_item_is room fs (mark CloseBrace ∷ xs) h = refl
-no_item_is room fs _ h = cc
+no_item_is levels_left fs [] h = refl
+no_item_is levels_left fs (mark CloseBrace ∷ xs) h = refl
+no_item_is levels_left fs _ h = cc
 
-semicolon_is : (room : ℕ) (fs : List FormulaSyntax) (xs : List Terminal) →
-    item room (item_last fs) (mark Semicolon ∷ xs) ≡ Some (Ok (open_items fs, xs))
+semicolon_is : (levels_left : ℕ) (fs : List FormulaSyntax) (xs : List Terminal) →
+    item levels_left (item_last fs) (mark Semicolon ∷ xs) ≡ Some (Ok (open_items fs, xs))
 unfolding item
-semicolon_is room fs xs = refl
+semicolon_is levels_left fs xs = refl
 
 -- a formula was read
-item_read : (room : ℕ) (fs : List ReadFormula) (f : ReadFormula) (xs rest : List Terminal) → begins_item xs ≡ true →
-    formula_with (lower room) xs ≡ Ok (formula_syntax f, rest) →
-    iterate (item room) (item_last (map formula_syntax (fs ++ f ∷ []))) rest ≡ iterate (item room) (open_items (map formula_syntax fs)) xs
-item_read room fs f xs rest h k =
-    ap (λ gs. iterate (item room) (item_last gs) rest) (map-append formula_syntax fs (f ∷ []))
-    ∙ next_step (item_shrinks room) (open_items (map formula_syntax fs)) xs
+item_read : (levels_left : ℕ) (fs : List ReadFormula) (f : ReadFormula) (xs rest : List Terminal) → begins_item xs ≡ true →
+    formula_with (lower levels_left) xs ≡ Ok (formula_syntax f, rest) →
+    iterate (item levels_left) (item_last (map formula_syntax (fs ++ f ∷ []))) rest ≡ iterate (item levels_left) (open_items (map formula_syntax fs)) xs
+item_read levels_left fs f xs rest h k =
+    ap (λ gs. iterate (item levels_left) (item_last gs) rest) (map-append formula_syntax fs (f ∷ []))
+    ∙ next_step (item_shrinks levels_left) (open_items (map formula_syntax fs)) xs
     (item_last (map formula_syntax fs ++ formula_syntax f ∷ [])) rest
-    (item_is room (map formula_syntax fs) xs h ∙ ap (λ answer. Some (map_read (λ g. item_last (map formula_syntax fs ++ g ∷ [])) answer)) k)
+    (item_is levels_left (map formula_syntax fs) xs h ∙ ap (λ answer. Some (map_read (λ g. item_last (map formula_syntax fs ++ g ∷ [])) answer)) k)
 
 -- a formula and its semicolon were read
-pub items_more : (room : ℕ) (fs : List ReadFormula) (f : ReadFormula) (xs rest after : List Terminal) → begins_item xs ≡ true →
-    formula_with (lower room) xs ≡ Ok (formula_syntax f, rest) → rest ≡ mark Semicolon ∷ after →
-    iterate (item room) (open_items (map formula_syntax (fs ++ f ∷ []))) after ≡ iterate (item room) (open_items (map formula_syntax fs)) xs
-items_more room fs f xs rest after h k e =
-    next_step (item_shrinks room) (item_last (map formula_syntax (fs ++ f ∷ []))) rest
+pub items_more : (levels_left : ℕ) (fs : List ReadFormula) (f : ReadFormula) (xs rest after : List Terminal) → begins_item xs ≡ true →
+    formula_with (lower levels_left) xs ≡ Ok (formula_syntax f, rest) → rest ≡ mark Semicolon ∷ after →
+    iterate (item levels_left) (open_items (map formula_syntax (fs ++ f ∷ []))) after ≡ iterate (item levels_left) (open_items (map formula_syntax fs)) xs
+items_more levels_left fs f xs rest after h k e =
+    next_step (item_shrinks levels_left) (item_last (map formula_syntax (fs ++ f ∷ []))) rest
     (open_items (map formula_syntax (fs ++ f ∷ []))) after
-    (ap (item room (item_last (map formula_syntax (fs ++ f ∷ [])))) e ∙ semicolon_is room (map formula_syntax (fs ++ f ∷ [])) after)
-    ∙ item_read room fs f xs rest h k
+    (ap (item levels_left (item_last (map formula_syntax (fs ++ f ∷ [])))) e ∙ semicolon_is levels_left (map formula_syntax (fs ++ f ∷ [])) after)
+    ∙ item_read levels_left fs f xs rest h k
 
 -- a last formula was read
-pub items_last : (room : ℕ) (fs : List ReadFormula) (f : ReadFormula) (xs rest ys : List Terminal) → begins_item xs ≡ true →
-    formula_with (lower room) xs ≡ Ok (formula_syntax f, rest) → item room (item_last (map formula_syntax (fs ++ f ∷ []))) rest ≡ None →
-    iterate (item room) (open_items (map formula_syntax fs)) xs ≡ iterate (item room) (open_items []) ys →
-    formulas room ys ≡ Ok (map formula_syntax (fs ++ f ∷ []), rest)
+pub items_last : (levels_left : ℕ) (fs : List ReadFormula) (f : ReadFormula) (xs rest ys : List Terminal) → begins_item xs ≡ true →
+    formula_with (lower levels_left) xs ≡ Ok (formula_syntax f, rest) → item levels_left (item_last (map formula_syntax (fs ++ f ∷ []))) rest ≡ None →
+    iterate (item levels_left) (open_items (map formula_syntax fs)) xs ≡ iterate (item levels_left) (open_items []) ys →
+    formulas levels_left ys ≡ Ok (map formula_syntax (fs ++ f ∷ []), rest)
 unfolding formulas
-items_last room fs f xs rest ys h k none e =
-    ap (map_read items_of) (sym e ∙ sym (item_read room fs f xs rest h k)
-    ∙ no_step (item_shrinks room) (item_last (map formula_syntax (fs ++ f ∷ []))) rest none)
+items_last levels_left fs f xs rest ys h k none e =
+    ap (map_read items_of) (sym e ∙ sym (item_read levels_left fs f xs rest h k)
+    ∙ no_step (item_shrinks levels_left) (item_last (map formula_syntax (fs ++ f ∷ []))) rest none)
 
 -- no item is left
-pub items_end : (room : ℕ) (fs : List FormulaSyntax) (xs ys : List Terminal) → begins_item xs ≡ false →
-    iterate (item room) (open_items fs) xs ≡ iterate (item room) (open_items []) ys → formulas room ys ≡ Ok (fs, xs)
+pub items_end : (levels_left : ℕ) (fs : List FormulaSyntax) (xs ys : List Terminal) → begins_item xs ≡ false →
+    iterate (item levels_left) (open_items fs) xs ≡ iterate (item levels_left) (open_items []) ys → formulas levels_left ys ≡ Ok (fs, xs)
 unfolding formulas
-items_end room fs xs ys h e = ap (map_read items_of) (sym e ∙ no_step (item_shrinks room) (open_items fs) xs (no_item_is room fs xs h))
+items_end levels_left fs xs ys h e = ap (map_read items_of) (sym e ∙ no_step (item_shrinks levels_left) (open_items fs) xs (no_item_is levels_left fs xs h))
 
 -- a formula has a fault
-pub items_fault : (room : ℕ) (fs : List FormulaSyntax) (xs ys : List Terminal) (fault : ReadFault) → begins_item xs ≡ true →
-    HasSyntaxFault (formula_with (lower room) xs) fault →
-    iterate (item room) (open_items fs) xs ≡ iterate (item room) (open_items []) ys → HasSyntaxFault (formulas room ys) fault
+pub items_fault : (levels_left : ℕ) (fs : List FormulaSyntax) (xs ys : List Terminal) (fault : ReadFault) → begins_item xs ≡ true →
+    HasSyntaxFault (formula_with (lower levels_left) xs) fault →
+    iterate (item levels_left) (open_items fs) xs ≡ iterate (item levels_left) (open_items []) ys → HasSyntaxFault (formulas levels_left ys) fault
 unfolding formulas
-items_fault room fs xs ys fault h k e =
-    map_fault items_of (iterate (item room) (open_items []) ys) fault
-    (rw (← e) (step_fault (item_shrinks room) (open_items fs) xs fault
-    (rw (item_is room fs xs h) (member_fault (map_read (λ f. item_last (fs ++ f ∷ [])) (formula_with (lower room) xs)) fault
-    (map_fault (λ f. item_last (fs ++ f ∷ [])) (formula_with (lower room) xs) fault k)))))
+items_fault levels_left fs xs ys fault h k e =
+    map_fault items_of (iterate (item levels_left) (open_items []) ys) fault
+    (rw (← e) (step_fault (item_shrinks levels_left) (open_items fs) xs fault
+    (rw (item_is levels_left fs xs h) (member_fault (map_read (λ f. item_last (fs ++ f ∷ [])) (formula_with (lower levels_left) xs)) fault
+    (map_fault (λ f. item_last (fs ++ f ∷ [])) (formula_with (lower levels_left) xs) fault k)))))
 
 -- a formula and its semicolon take terminals
-pub items_shorten : (room : ℕ) (f : FormulaSyntax) (xs rest after : List LentTerminal) → begins_item (terminals_view xs) ≡ true →
-    formula_with (lower room) (terminals_view xs) ≡ Ok (f, terminals_view rest) → length after < length rest → length after < length xs
-items_shorten room f xs rest after h k few =
-    let less = seen_shorter xs rest (item_shrinks room (open_items []) (terminals_view xs) (item_last (f ∷ [])) (terminals_view rest)
-    (item_is room [] (terminals_view xs) h ∙ ap (λ answer. Some (map_read (λ g. item_last (g ∷ [])) answer)) k)) in
+pub items_shorten : (levels_left : ℕ) (f : FormulaSyntax) (xs rest after : List LentTerminal) → begins_item (terminals_view xs) ≡ true →
+    formula_with (lower levels_left) (terminals_view xs) ≡ Ok (f, terminals_view rest) → length after < length rest → length after < length xs
+items_shorten levels_left f xs rest after h k few =
+    let less = seen_shorter xs rest (item_shrinks levels_left (open_items []) (terminals_view xs) (item_last (f ∷ [])) (terminals_view rest)
+    (item_is levels_left [] (terminals_view xs) h ∙ ap (λ answer. Some (map_read (λ g. item_last (g ∷ [])) answer)) k)) in
     omega (arith, less, few)

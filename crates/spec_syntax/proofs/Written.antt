@@ -1,4 +1,4 @@
--- A tree is derived from the terminals that it is written with, and from no others; and it needs the room that it was
+-- A tree is derived from the terminals that it is written with, and from no others; and it needs as many levels as it was
 -- derived with.
 use Rattle.std.proofs.Common.{◌≡◌, ℕ, ◌≤◌, max, List, [], ◌∷◌, ◌++◌, Some, refl, ap, sym, ◌∙◌, arith}
 use Rattle.std.proofs.lemmas.List.{append-nil}

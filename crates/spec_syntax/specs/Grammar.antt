@@ -1,6 +1,6 @@
--- The grammar of specifications, by cases on whole lists of terminals. A form stands at a level from 0; `room` is
--- how many levels there may be below it, so that the grammar with levels up to 200 has room 200 at level 0, and the
--- grammar without a bound is that of any room.
+-- The grammar of specifications, by cases on whole lists of terminals. A form stands at a level from 0; `levels_left` is
+-- how many levels there may be below it, so that the grammar with levels up to 200 begins with 200 levels left, and the
+-- grammar without a bound is that of any number of them.
 -- The grammar is that of tsltools' specification format, in this project's profile.
 use Rattle.std.specs.Prelude.{◌≡◌, ℕ, suc, List, [], ◌∷◌, ◌++◌, map, Option, Some, None}
 use Rattle.tsl_text.specs.declared.TokenKind.TheVariants.{
@@ -77,95 +77,95 @@ in_brackets xs = mark OpenRound ∷ (xs ++ mark CloseRound ∷ [])
 mutual
   -- term(l) = name | name "(" ")" | name argument(l) argument(l)* | "(" term(l+1) ")"
   pub data IsTerm : ℕ → List Terminal → TermSyntax → Type 0 where
-    signal : {room : ℕ} (x : List ℕ) → IsTerm room (free x ∷ []) (alone x)
-    constant : {room : ℕ} (c : List ℕ) → IsTerm room (free c ∷ mark OpenRound ∷ mark CloseRound ∷ []) (applied c no_terms)
-    application : {room : ℕ} {xs : List Terminal} {t : TermSyntax} {ts : List TermSyntax} (f : List ℕ) →
-        AreArguments room xs (t ∷ ts) → IsTerm room (free f ∷ xs) (applied f (listed_terms (t ∷ ts)))
-    brackets : {room : ℕ} {xs : List Terminal} {t : TermSyntax} →
-        IsTerm room xs t → IsTerm (suc room) (in_brackets xs) (grouped_term t)
+    signal : {levels_left : ℕ} (x : List ℕ) → IsTerm levels_left (free x ∷ []) (alone x)
+    constant : {levels_left : ℕ} (c : List ℕ) → IsTerm levels_left (free c ∷ mark OpenRound ∷ mark CloseRound ∷ []) (applied c no_terms)
+    application : {levels_left : ℕ} {xs : List Terminal} {t : TermSyntax} {ts : List TermSyntax} (f : List ℕ) →
+        AreArguments levels_left xs (t ∷ ts) → IsTerm levels_left (free f ∷ xs) (applied f (listed_terms (t ∷ ts)))
+    brackets : {levels_left : ℕ} {xs : List Terminal} {t : TermSyntax} →
+        IsTerm levels_left xs t → IsTerm (suc levels_left) (in_brackets xs) (grouped_term t)
 
   -- argument(l) argument(l)*
   pub data AreArguments : ℕ → List Terminal → List TermSyntax → Type 0 where
-    one_argument : {room : ℕ} {xs : List Terminal} {t : TermSyntax} →
-        IsArgument room xs t → AreArguments room xs (t ∷ [])
-    more_arguments : {room : ℕ} {xs ys : List Terminal} {t : TermSyntax} {ts : List TermSyntax} →
-        IsArgument room xs t → AreArguments room ys ts → AreArguments room (xs ++ ys) (t ∷ ts)
+    one_argument : {levels_left : ℕ} {xs : List Terminal} {t : TermSyntax} →
+        IsArgument levels_left xs t → AreArguments levels_left xs (t ∷ [])
+    more_arguments : {levels_left : ℕ} {xs ys : List Terminal} {t : TermSyntax} {ts : List TermSyntax} →
+        IsArgument levels_left xs t → AreArguments levels_left ys ts → AreArguments levels_left (xs ++ ys) (t ∷ ts)
 
   -- argument(l) = name | name "(" ")" | "(" term(l+1) ")"
   pub data IsArgument : ℕ → List Terminal → TermSyntax → Type 0 where
-    signal_argument : {room : ℕ} (x : List ℕ) → IsArgument room (free x ∷ []) (alone x)
-    constant_argument : {room : ℕ} (c : List ℕ) →
-        IsArgument room (free c ∷ mark OpenRound ∷ mark CloseRound ∷ []) (applied c no_terms)
-    brackets_argument : {room : ℕ} {xs : List Terminal} {t : TermSyntax} →
-        IsTerm room xs t → IsArgument (suc room) (in_brackets xs) (grouped_term t)
+    signal_argument : {levels_left : ℕ} (x : List ℕ) → IsArgument levels_left (free x ∷ []) (alone x)
+    constant_argument : {levels_left : ℕ} (c : List ℕ) →
+        IsArgument levels_left (free c ∷ mark OpenRound ∷ mark CloseRound ∷ []) (applied c no_terms)
+    brackets_argument : {levels_left : ℕ} {xs : List Terminal} {t : TermSyntax} →
+        IsTerm levels_left xs t → IsArgument (suc levels_left) (in_brackets xs) (grouped_term t)
 
 mutual
   -- formula(l) = prefix(l) ("U" | "W" | "R") prefix(l) | iff(l)
   pub data IsFormula : ℕ → List Terminal → FormulaSyntax → Type 0 where
-    temporal : {room : ℕ} {xs ys : List Terminal} {a b : FormulaSyntax} (op : BinaryOperator) (t : Terminal) → temporal_of t ≡ Some op →
-        IsPrefix room xs a → IsPrefix room ys b → IsFormula room (xs ++ t ∷ ys) (between op a b)
-    chain : {room : ℕ} {xs : List Terminal} {a : FormulaSyntax} → IsIff room xs a → IsFormula room xs a
+    temporal : {levels_left : ℕ} {xs ys : List Terminal} {a b : FormulaSyntax} (op : BinaryOperator) (t : Terminal) → temporal_of t ≡ Some op →
+        IsPrefix levels_left xs a → IsPrefix levels_left ys b → IsFormula levels_left (xs ++ t ∷ ys) (between op a b)
+    chain : {levels_left : ℕ} {xs : List Terminal} {a : FormulaSyntax} → IsIff levels_left xs a → IsFormula levels_left xs a
 
   -- iff(l) = imp(l) | imp(l) "<->" iff(l+1)
   pub data IsIff : ℕ → List Terminal → FormulaSyntax → Type 0 where
-    no_iff : {room : ℕ} {xs : List Terminal} {a : FormulaSyntax} → IsImp room xs a → IsIff room xs a
-    iff : {room : ℕ} {xs ys : List Terminal} {a b : FormulaSyntax} →
-        IsImp (suc room) xs a → IsIff room ys b → IsIff (suc room) (xs ++ mark BothArrow ∷ ys) (between Equivalence a b)
+    no_iff : {levels_left : ℕ} {xs : List Terminal} {a : FormulaSyntax} → IsImp levels_left xs a → IsIff levels_left xs a
+    iff : {levels_left : ℕ} {xs ys : List Terminal} {a b : FormulaSyntax} →
+        IsImp (suc levels_left) xs a → IsIff levels_left ys b → IsIff (suc levels_left) (xs ++ mark BothArrow ∷ ys) (between Equivalence a b)
 
   -- imp(l) = or(l) | or(l) "->" imp(l+1)
   pub data IsImp : ℕ → List Terminal → FormulaSyntax → Type 0 where
-    no_imp : {room : ℕ} {xs : List Terminal} {a : FormulaSyntax} → IsOr room xs a → IsImp room xs a
-    imp : {room : ℕ} {xs ys : List Terminal} {a b : FormulaSyntax} →
-        IsOr (suc room) xs a → IsImp room ys b → IsImp (suc room) (xs ++ mark Arrow ∷ ys) (between Implication a b)
+    no_imp : {levels_left : ℕ} {xs : List Terminal} {a : FormulaSyntax} → IsOr levels_left xs a → IsImp levels_left xs a
+    imp : {levels_left : ℕ} {xs ys : List Terminal} {a b : FormulaSyntax} →
+        IsOr (suc levels_left) xs a → IsImp levels_left ys b → IsImp (suc levels_left) (xs ++ mark Arrow ∷ ys) (between Implication a b)
 
   -- or(l) = and(l) ("||" and(l))*
   pub data IsOr : ℕ → List Terminal → FormulaSyntax → Type 0 where
-    disjunction : {room : ℕ} {xs ys : List Terminal} {a : FormulaSyntax} {fs : List FormulaSyntax} →
-        IsAnd room xs a → AreDisjuncts room ys fs → IsOr room (xs ++ ys) (join Disjunction a fs)
+    disjunction : {levels_left : ℕ} {xs ys : List Terminal} {a : FormulaSyntax} {fs : List FormulaSyntax} →
+        IsAnd levels_left xs a → AreDisjuncts levels_left ys fs → IsOr levels_left (xs ++ ys) (join Disjunction a fs)
 
   -- ("||" and(l))*
   pub data AreDisjuncts : ℕ → List Terminal → List FormulaSyntax → Type 0 where
-    no_disjunct : {room : ℕ} → AreDisjuncts room [] []
-    more_disjuncts : {room : ℕ} {xs ys : List Terminal} {a : FormulaSyntax} {fs : List FormulaSyntax} →
-        IsAnd room xs a → AreDisjuncts room ys fs → AreDisjuncts room (mark Or ∷ (xs ++ ys)) (a ∷ fs)
+    no_disjunct : {levels_left : ℕ} → AreDisjuncts levels_left [] []
+    more_disjuncts : {levels_left : ℕ} {xs ys : List Terminal} {a : FormulaSyntax} {fs : List FormulaSyntax} →
+        IsAnd levels_left xs a → AreDisjuncts levels_left ys fs → AreDisjuncts levels_left (mark Or ∷ (xs ++ ys)) (a ∷ fs)
 
   -- and(l) = prefix(l) ("&&" prefix(l))*
   pub data IsAnd : ℕ → List Terminal → FormulaSyntax → Type 0 where
-    conjunction : {room : ℕ} {xs ys : List Terminal} {a : FormulaSyntax} {fs : List FormulaSyntax} →
-        IsPrefix room xs a → AreConjuncts room ys fs → IsAnd room (xs ++ ys) (join Conjunction a fs)
+    conjunction : {levels_left : ℕ} {xs ys : List Terminal} {a : FormulaSyntax} {fs : List FormulaSyntax} →
+        IsPrefix levels_left xs a → AreConjuncts levels_left ys fs → IsAnd levels_left (xs ++ ys) (join Conjunction a fs)
 
   -- ("&&" prefix(l))*
   pub data AreConjuncts : ℕ → List Terminal → List FormulaSyntax → Type 0 where
-    no_conjunct : {room : ℕ} → AreConjuncts room [] []
-    more_conjuncts : {room : ℕ} {xs ys : List Terminal} {a : FormulaSyntax} {fs : List FormulaSyntax} →
-        IsPrefix room xs a → AreConjuncts room ys fs → AreConjuncts room (mark And ∷ (xs ++ ys)) (a ∷ fs)
+    no_conjunct : {levels_left : ℕ} → AreConjuncts levels_left [] []
+    more_conjuncts : {levels_left : ℕ} {xs ys : List Terminal} {a : FormulaSyntax} {fs : List FormulaSyntax} →
+        IsPrefix levels_left xs a → AreConjuncts levels_left ys fs → AreConjuncts levels_left (mark And ∷ (xs ++ ys)) (a ∷ fs)
 
   -- prefix(l) = ("!" | "X" | "F" | "G") prefix(l+1) | atom(l)
   pub data IsPrefix : ℕ → List Terminal → FormulaSyntax → Type 0 where
-    prefix : {room : ℕ} {xs : List Terminal} {a : FormulaSyntax} (op : UnaryOperator) (t : Terminal) → unary_of t ≡ Some op →
-        IsPrefix room xs a → IsPrefix (suc room) (t ∷ xs) (under op a)
-    atom : {room : ℕ} {xs : List Terminal} {a : FormulaSyntax} → IsAtom room xs a → IsPrefix room xs a
+    prefix : {levels_left : ℕ} {xs : List Terminal} {a : FormulaSyntax} (op : UnaryOperator) (t : Terminal) → unary_of t ≡ Some op →
+        IsPrefix levels_left xs a → IsPrefix (suc levels_left) (t ∷ xs) (under op a)
+    atom : {levels_left : ℕ} {xs : List Terminal} {a : FormulaSyntax} → IsAtom levels_left xs a → IsPrefix levels_left xs a
 
   -- atom(l) = "true" | "false" | "(" formula(l+1) ")" | "[" name "<-" term(l) "]"
   --         | name | name "(" ")" | name argument(l) argument(l)*
   pub data IsAtom : ℕ → List Terminal → FormulaSyntax → Type 0 where
-    true_atom : {room : ℕ} → IsAtom room (word True ∷ []) truth
-    false_atom : {room : ℕ} → IsAtom room (word False ∷ []) falsehood
-    brackets_atom : {room : ℕ} {xs : List Terminal} {a : FormulaSyntax} →
-        IsFormula room xs a → IsAtom (suc room) (in_brackets xs) (grouped a)
-    update : {room : ℕ} {xs : List Terminal} {t : TermSyntax} (x : List ℕ) → IsTerm room xs t →
-        IsAtom room (mark OpenSquare ∷ free x ∷ mark LeftArrow ∷ (xs ++ mark CloseSquare ∷ [])) (updated x t)
-    bare_name : {room : ℕ} (x : List ℕ) → IsAtom room (free x ∷ []) (bare x)
-    no_argument : {room : ℕ} (p : List ℕ) → IsAtom room (free p ∷ mark OpenRound ∷ mark CloseRound ∷ []) (tested p no_terms)
-    test : {room : ℕ} {xs : List Terminal} {t : TermSyntax} {ts : List TermSyntax} (p : List ℕ) →
-        AreArguments room xs (t ∷ ts) → IsAtom room (free p ∷ xs) (tested p (listed_terms (t ∷ ts)))
+    true_atom : {levels_left : ℕ} → IsAtom levels_left (word True ∷ []) truth
+    false_atom : {levels_left : ℕ} → IsAtom levels_left (word False ∷ []) falsehood
+    brackets_atom : {levels_left : ℕ} {xs : List Terminal} {a : FormulaSyntax} →
+        IsFormula levels_left xs a → IsAtom (suc levels_left) (in_brackets xs) (grouped a)
+    update : {levels_left : ℕ} {xs : List Terminal} {t : TermSyntax} (x : List ℕ) → IsTerm levels_left xs t →
+        IsAtom levels_left (mark OpenSquare ∷ free x ∷ mark LeftArrow ∷ (xs ++ mark CloseSquare ∷ [])) (updated x t)
+    bare_name : {levels_left : ℕ} (x : List ℕ) → IsAtom levels_left (free x ∷ []) (bare x)
+    no_argument : {levels_left : ℕ} (p : List ℕ) → IsAtom levels_left (free p ∷ mark OpenRound ∷ mark CloseRound ∷ []) (tested p no_terms)
+    test : {levels_left : ℕ} {xs : List Terminal} {t : TermSyntax} {ts : List TermSyntax} (p : List ℕ) →
+        AreArguments levels_left xs (t ∷ ts) → IsAtom levels_left (free p ∷ xs) (tested p (listed_terms (t ∷ ts)))
 
 -- items = nothing | formula(0) (";" formula(0))* [";"]
 pub data AreItems : ℕ → List Terminal → List FormulaSyntax → Type 0 where
-  nothing : {room : ℕ} → AreItems room [] []
-  last_item : {room : ℕ} {xs : List Terminal} {f : FormulaSyntax} → IsFormula room xs f → AreItems room xs (f ∷ [])
-  item : {room : ℕ} {xs ys : List Terminal} {f : FormulaSyntax} {fs : List FormulaSyntax} →
-      IsFormula room xs f → AreItems room ys fs → AreItems room (xs ++ mark Semicolon ∷ ys) (f ∷ fs)
+  nothing : {levels_left : ℕ} → AreItems levels_left [] []
+  last_item : {levels_left : ℕ} {xs : List Terminal} {f : FormulaSyntax} → IsFormula levels_left xs f → AreItems levels_left xs (f ∷ [])
+  item : {levels_left : ℕ} {xs ys : List Terminal} {f : FormulaSyntax} {fs : List FormulaSyntax} →
+      IsFormula levels_left xs f → AreItems levels_left ys fs → AreItems levels_left (xs ++ mark Semicolon ∷ ys) (f ∷ fs)
 
 -- ["always" | "initially"] ("assume" | "guarantee"), and the list of formulas that it means
 pub data IsHead : List Terminal → Part → Type 0 where
@@ -178,25 +178,25 @@ pub data IsHead : List Terminal → Part → Type 0 where
 
 -- section = ["always" | "initially"] ("assume" | "guarantee") "{" items "}"
 pub data IsSection : ℕ → List Terminal → SectionSyntax → Type 0 where
-  braces : {room : ℕ} {xs ys : List Terminal} {part : Part} {fs : List FormulaSyntax} → IsHead xs part → AreItems room ys fs →
-      IsSection room (xs ++ mark OpenBrace ∷ (ys ++ mark CloseBrace ∷ [])) (record { part = part; formulas = fs })
+  braces : {levels_left : ℕ} {xs ys : List Terminal} {part : Part} {fs : List FormulaSyntax} → IsHead xs part → AreItems levels_left ys fs →
+      IsSection levels_left (xs ++ mark OpenBrace ∷ (ys ++ mark CloseBrace ∷ [])) (record { part = part; formulas = fs })
 
 -- spec = section*
 pub data AreSections : ℕ → List Terminal → List SectionSyntax → Type 0 where
-  no_section : {room : ℕ} → AreSections room [] []
-  section : {room : ℕ} {xs ys : List Terminal} {s : SectionSyntax} {ss : List SectionSyntax} →
-      IsSection room xs s → AreSections room ys ss → AreSections room (xs ++ ys) (s ∷ ss)
+  no_section : {levels_left : ℕ} → AreSections levels_left [] []
+  section : {levels_left : ℕ} {xs ys : List Terminal} {s : SectionSyntax} {ss : List SectionSyntax} →
+      IsSection levels_left xs s → AreSections levels_left ys ss → AreSections levels_left (xs ++ ys) (s ∷ ss)
 
 -- definition = name name* "=" formula(0) ";"
 pub data IsDefinition : ℕ → List Terminal → Definition → Type 0 where
-  equation : {room : ℕ} {xs : List Terminal} {a : FormulaSyntax} (x : List ℕ) (ps : List (List ℕ)) → IsFormula room xs a →
-      IsDefinition room (free x ∷ (map free ps ++ mark Equals ∷ (xs ++ mark Semicolon ∷ [])))
+  equation : {levels_left : ℕ} {xs : List Terminal} {a : FormulaSyntax} (x : List ℕ) (ps : List (List ℕ)) → IsFormula levels_left xs a →
+      IsDefinition levels_left (free x ∷ (map free ps ++ mark Equals ∷ (xs ++ mark Semicolon ∷ [])))
       (record { name = x; parameters = ps; body = a })
 
 -- declarations = (section | definition)*. The second list of terminals are those of the sections alone.
 pub data AreDeclarations : ℕ → List Terminal → List Terminal → List Declaration → Type 0 where
-  no_declaration : {room : ℕ} → AreDeclarations room [] [] []
-  a_section : {room : ℕ} {xs ys own : List Terminal} {s : SectionSyntax} {ds : List Declaration} →
-      IsSection room xs s → AreDeclarations room ys own ds → AreDeclarations room (xs ++ ys) (xs ++ own) (the_section s ∷ ds)
-  a_definition : {room : ℕ} {xs ys own : List Terminal} {d : Definition} {ds : List Declaration} →
-      IsDefinition room xs d → AreDeclarations room ys own ds → AreDeclarations room (xs ++ ys) own (the_definition d ∷ ds)
+  no_declaration : {levels_left : ℕ} → AreDeclarations levels_left [] [] []
+  a_section : {levels_left : ℕ} {xs ys own : List Terminal} {s : SectionSyntax} {ds : List Declaration} →
+      IsSection levels_left xs s → AreDeclarations levels_left ys own ds → AreDeclarations levels_left (xs ++ ys) (xs ++ own) (the_section s ∷ ds)
+  a_definition : {levels_left : ℕ} {xs ys own : List Terminal} {d : Definition} {ds : List Declaration} →
+      IsDefinition levels_left xs d → AreDeclarations levels_left ys own ds → AreDeclarations levels_left (xs ++ ys) own (the_definition d ∷ ds)

@@ -319,10 +319,10 @@ above lower = record {
       formula_with lower;
 }
 
--- the next level, where there is room for so many levels
+-- the next level, where so many levels are left
 unfoldable pub lower : ℕ → Option Level
 lower zero = None
-lower (suc room) = Some (above (lower room))
+lower (suc levels_left) = Some (above (lower levels_left))
 
 -- the items of a section so far
 pub data Items : Type 0 where
@@ -337,11 +337,11 @@ items_of (item_last fs) = fs
 
 -- a formula or a semicolon, where items go on
 unfoldable pub item : ℕ → Items → List Terminal → Option (Answer Terminal Items)
-item room s [] = None
-item room (open_items fs) (mark CloseBrace ∷ rest) = None
-item room (open_items fs) xs = Some (map_read (λ f. item_last (fs ++ f ∷ [])) (formula_with (lower room) xs))
-item room (item_last fs) (mark Semicolon ∷ rest) = Some (Ok (open_items fs, rest))
-item room (item_last fs) xs = None
+item levels_left s [] = None
+item levels_left (open_items fs) (mark CloseBrace ∷ rest) = None
+item levels_left (open_items fs) xs = Some (map_read (λ f. item_last (fs ++ f ∷ [])) (formula_with (lower levels_left) xs))
+item levels_left (item_last fs) (mark Semicolon ∷ rest) = Some (Ok (open_items fs, rest))
+item levels_left (item_last fs) xs = None
 
 -- whether an item begins here
 abbrev pub begins_item : List Terminal → Bool
@@ -351,35 +351,35 @@ begins_item _ = true
 
 -- the formulas of a section
 unfoldable pub formulas : ℕ → Reader Terminal (List FormulaSyntax)
-formulas room xs = map_read items_of (iterate (item room) (open_items []) xs)
+formulas levels_left xs = map_read items_of (iterate (item levels_left) (open_items []) xs)
 
 abbrev pub section_made : Part → List FormulaSyntax → SectionSyntax
 section_made part formulas = record { part = part; formulas = formulas }
 
 -- the items of a section between their braces
 unfoldable pub items : ℕ → Part → Reader Terminal SectionSyntax
-items room part (mark OpenBrace ∷ rest) = map_read (section_made part) (closed_by is_close_brace (formulas room) rest)
-items room part xs = form_at xs
+items levels_left part (mark OpenBrace ∷ rest) = map_read (section_made part) (closed_by is_close_brace (formulas levels_left) rest)
+items levels_left part xs = form_at xs
 
 -- a section after its first word
 unfoldable pub side : ℕ → Part → Part → Reader Terminal SectionSyntax
-side room assumed guaranteed (word Assume ∷ rest) = items room assumed rest
-side room assumed guaranteed (word Guarantee ∷ rest) = items room guaranteed rest
-side room assumed guaranteed xs = form_at xs
+side levels_left assumed guaranteed (word Assume ∷ rest) = items levels_left assumed rest
+side levels_left assumed guaranteed (word Guarantee ∷ rest) = items levels_left guaranteed rest
+side levels_left assumed guaranteed xs = form_at xs
 
 unfoldable pub section_at : ℕ → Reader Terminal SectionSyntax
-section_at room (word Always ∷ rest) = side room AssumeAlways GuaranteeAlways rest
-section_at room (word Initially ∷ rest) = side room AssumeFirst GuaranteeFirst rest
-section_at room xs = side room AssumeFirst GuaranteeFirst xs
+section_at levels_left (word Always ∷ rest) = side levels_left AssumeAlways GuaranteeAlways rest
+section_at levels_left (word Initially ∷ rest) = side levels_left AssumeFirst GuaranteeFirst rest
+section_at levels_left xs = side levels_left AssumeFirst GuaranteeFirst xs
 
 -- the section at the front, unless the text ends here
 unfoldable pub section : ℕ → List Terminal → Option (Answer Terminal SectionSyntax)
-section room [] = None
-section room (x ∷ xs) = Some (section_at room (x ∷ xs))
+section levels_left [] = None
+section levels_left (x ∷ xs) = Some (section_at levels_left (x ∷ xs))
 
 -- the sections of a text
 unfoldable pub sections : ℕ → Reader Terminal (List SectionSyntax)
-sections room = members (section room)
+sections levels_left = members (section levels_left)
 
 -- the name at the front, unless none stands there
 unfoldable pub name_at : List Terminal → Option (Answer Terminal (List ℕ))
@@ -392,25 +392,25 @@ parameters xs = closed_by is_equals (members name_at) xs
 
 -- what a definition stands for, and the `;` behind it
 unfoldable pub body : ℕ → Reader Terminal FormulaSyntax
-body room xs = closed_by is_semicolon (formula_with (lower room)) xs
+body levels_left xs = closed_by is_semicolon (formula_with (lower levels_left)) xs
 
 abbrev pub definition_made : List ℕ → List (List ℕ) → FormulaSyntax → Definition
 definition_made x ps a = record { name = x; parameters = ps; body = a }
 
 -- a definition after its name
 unfoldable pub definition : ℕ → List ℕ → Reader Terminal Definition
-definition room x xs = and_then (parameters xs) (λ ps ys. map_read (definition_made x ps) (body room ys))
+definition levels_left x xs = and_then (parameters xs) (λ ps ys. map_read (definition_made x ps) (body levels_left ys))
 
 -- a definition where a name begins, and else a section
 unfoldable pub declaration_at : ℕ → Reader Terminal Declaration
-declaration_at room (free x ∷ rest) = map_read the_definition (definition room x rest)
-declaration_at room xs = map_read the_section (section_at room xs)
+declaration_at levels_left (free x ∷ rest) = map_read the_definition (definition levels_left x rest)
+declaration_at levels_left xs = map_read the_section (section_at levels_left xs)
 
 -- the declaration at the front, unless the text ends here
 unfoldable pub declaration : ℕ → List Terminal → Option (Answer Terminal Declaration)
-declaration room [] = None
-declaration room (x ∷ xs) = Some (declaration_at room (x ∷ xs))
+declaration levels_left [] = None
+declaration levels_left (x ∷ xs) = Some (declaration_at levels_left (x ∷ xs))
 
 -- the sections and definitions of a text
 unfoldable pub declarations : ℕ → Reader Terminal (List Declaration)
-declarations room = members (declaration room)
+declarations levels_left = members (declaration levels_left)

@@ -12,30 +12,30 @@ terminal_at text token = terminal_of (lexeme_of text token)
 abbrev pub terminals : List ℕ → List Token → List Terminal
 terminals text tokens = map (terminal_at text) tokens
 
--- some text of the grammar with this room begins with these terminals
+-- some text of the grammar with these levels left begins with these terminals
 abbrev pub SomeTextBegins : ℕ → List Terminal → Type 0
-SomeTextBegins room front = (rest : List Terminal) × (sections : List SectionSyntax) × AreSections room (front ++ rest) sections
+SomeTextBegins levels_left front = (rest : List Terminal) × (sections : List SectionSyntax) × AreSections levels_left (front ++ rest) sections
 
--- no text of the grammar with this room begins with these terminals
+-- no text of the grammar with these levels left begins with these terminals
 abbrev pub NoTextBegins : ℕ → List Terminal → Type 0
-NoTextBegins room front = (rest : List Terminal) (sections : List SectionSyntax) → AreSections room (front ++ rest) sections → ⊥
+NoTextBegins levels_left front = (rest : List Terminal) (sections : List SectionSyntax) → AreSections levels_left (front ++ rest) sections → ⊥
 
--- the terminals are no text of the grammar with this room
+-- the terminals are no text of the grammar with these levels left
 abbrev pub IsNoText : ℕ → List Terminal → Type 0
-IsNoText room xs = (sections : List SectionSyntax) → AreSections room xs sections → ⊥
+IsNoText levels_left xs = (sections : List SectionSyntax) → AreSections levels_left xs sections → ⊥
 
 -- the terminals are a text of sections and definitions, these ones
 abbrev pub IsText : ℕ → List Terminal → List Declaration → Type 0
-IsText room xs declarations = (own : List Terminal) × AreDeclarations room xs own declarations
+IsText levels_left xs declarations = (own : List Terminal) × AreDeclarations levels_left xs own declarations
 
 -- some text of sections and definitions begins with these terminals
 abbrev pub SomeDeclarationsBegin : ℕ → List Terminal → Type 0
-SomeDeclarationsBegin room front = (rest : List Terminal) × (declarations : List Declaration) × IsText room (front ++ rest) declarations
+SomeDeclarationsBegin levels_left front = (rest : List Terminal) × (declarations : List Declaration) × IsText levels_left (front ++ rest) declarations
 
 -- none does
 abbrev pub NoDeclarationsBegin : ℕ → List Terminal → Type 0
-NoDeclarationsBegin room front = (rest : List Terminal) (declarations : List Declaration) → IsText room (front ++ rest) declarations → ⊥
+NoDeclarationsBegin levels_left front = (rest : List Terminal) (declarations : List Declaration) → IsText levels_left (front ++ rest) declarations → ⊥
 
 -- the terminals are no text of sections and definitions
 abbrev pub AreNoDeclarations : ℕ → List Terminal → Type 0
-AreNoDeclarations room xs = (declarations : List Declaration) → IsText room xs declarations → ⊥
+AreNoDeclarations levels_left xs = (declarations : List Declaration) → IsText levels_left xs declarations → ⊥

@@ -16,7 +16,7 @@ ghost use Rattle.spec_syntax.specs.internal.InnerView.{listed_syntax, FormulaRea
 
 use crate::fault::ReadFault;
 use crate::syntax::{ArrowKind, Closer, Word};
-use crate::terminal::{Left, Terminal};
+use crate::terminal::{Rest, Terminal};
 use crate::terms::{Answer, after_name, close, level_below, term_with};
 use crate::trees::{ReadFormula, ReadFormulas, ReadTerm, ReadTerms};
 use sequence::NoMemory;
@@ -148,10 +148,10 @@ fn join<'a>(
 #[tactic(auto, unfolding(crate::specs::Reading::update_with))]
 fn update_with<'a, 'b>(
     alloc: Global,
-    room: u32,
+    levels_left: u32,
     xs: &'b [Terminal<'a>],
 ) -> Answer<'a, 'b, ReadFormula<'a>>
-    ensures { Reads formula_syntax (update_with (lower room)) xs.now result }
+    ensures { Reads formula_syntax (update_with (lower levels_left)) xs.now result }
 {
     match xs {
         [
@@ -159,7 +159,7 @@ fn update_with<'a, 'b>(
             Terminal::Mark(TokenKind::LeftArrow),
             rest @ ..,
         ] => {
-            let (term, rest) = term_with(alloc, room, rest)?;
+            let (term, rest) = term_with(alloc, levels_left, rest)?;
             let (_, rest) = close(Closer::Square, rest)?;
             Ok((ReadFormula::Updated(name, term), rest))
         }
@@ -173,13 +173,13 @@ fn update_with<'a, 'b>(
 #[cycle(read)]
 fn form_below<'a, 'b>(
     alloc: Global,
-    room: u32,
+    levels_left: u32,
     form: Form,
     xs: &'b [Terminal<'a>],
 ) -> Answer<'a, 'b, ReadFormula<'a>>
-    ensures { Reads formula_syntax (below (lower room) (reader_of form)) xs.now result }
+    ensures { Reads formula_syntax (below (lower levels_left) (reader_of form)) xs.now result }
 {
-    let below = level_below(room, xs)?;
+    let below = level_below(levels_left, xs)?;
     match xs {
         [] => Err(ReadFault::Form(0)),
         [_, rest @ ..] => form_with(alloc, below, form, rest),
@@ -191,17 +191,17 @@ fn form_below<'a, 'b>(
 #[tactic(auto, unfolding(crate::specs::Reading::right_with, crate::specs::Reading::formula_with))]
 pub(crate) fn form_with<'a, 'b>(
     alloc: Global,
-    room: u32,
+    levels_left: u32,
     form: Form,
     xs: &'b [Terminal<'a>],
 ) -> Answer<'a, 'b, ReadFormula<'a>>
-    ensures { Reads formula_syntax (form_with form (lower room)) xs.now result }
+    ensures { Reads formula_syntax (form_with form (lower levels_left)) xs.now result }
 {
-    let (first, rest) = prefix_with(alloc, room, xs)?;
+    let (first, rest) = prefix_with(alloc, levels_left, xs)?;
     match form {
         Form::Prefix => Ok((first, rest)),
-        Form::Right(kind) => right_after(alloc, room, kind, first, rest),
-        Form::Formula => formula_after(alloc, room, first, rest),
+        Form::Right(kind) => right_after(alloc, levels_left, kind, first, rest),
+        Form::Formula => formula_after(alloc, levels_left, first, rest),
     }
 }
 
@@ -209,12 +209,12 @@ pub(crate) fn form_with<'a, 'b>(
 #[cycle(read)]
 fn bracketed_formula<'a, 'b>(
     alloc: Global,
-    room: u32,
+    levels_left: u32,
     xs: &'b [Terminal<'a>],
 ) -> Answer<'a, 'b, ReadFormula<'a>>
-    ensures { Reads formula_syntax (below (lower room) bracketed_formula) xs.now result }
+    ensures { Reads formula_syntax (below (lower levels_left) bracketed_formula) xs.now result }
 {
-    let (formula, rest) = form_below(alloc, room, Form::Formula, xs)?;
+    let (formula, rest) = form_below(alloc, levels_left, Form::Formula, xs)?;
     let (_, rest) = close(Closer::Round, rest)?;
     Ok((formula, rest))
 }
@@ -224,21 +224,21 @@ fn bracketed_formula<'a, 'b>(
 #[tactic(auto, unfolding(crate::specs::Reading::atom_with))]
 fn atom_with<'a, 'b>(
     alloc: Global,
-    room: u32,
+    levels_left: u32,
     xs: &'b [Terminal<'a>],
 ) -> Answer<'a, 'b, ReadFormula<'a>>
-    ensures { Reads formula_syntax (atom_with (lower room)) xs.now result }
+    ensures { Reads formula_syntax (atom_with (lower levels_left)) xs.now result }
 {
     match xs {
         [Terminal::Word(Word::True), rest @ ..] => Ok((ReadFormula::True, rest)),
         [Terminal::Word(Word::False), rest @ ..] => Ok((ReadFormula::False, rest)),
         [Terminal::Mark(TokenKind::OpenRound), ..] => {
-            let (formula, rest) = bracketed_formula(alloc, room, xs)?;
+            let (formula, rest) = bracketed_formula(alloc, levels_left, xs)?;
             Ok((ReadFormula::Grouped(Box::new(alloc, formula)?), rest))
         }
-        [Terminal::Mark(TokenKind::OpenSquare), rest @ ..] => update_with(alloc, room, rest),
+        [Terminal::Mark(TokenKind::OpenSquare), rest @ ..] => update_with(alloc, levels_left, rest),
         [Terminal::Free(name), rest @ ..] => {
-            let (arguments, rest) = after_name(alloc, room, rest)?;
+            let (arguments, rest) = after_name(alloc, levels_left, rest)?;
             let atom = atom_named(alloc, name, arguments)?;
             Ok((atom, rest))
         }
@@ -251,17 +251,17 @@ fn atom_with<'a, 'b>(
 #[tactic(auto, unfolding(crate::specs::Reading::prefix_with, crate::specs::Reading::prefix_from))]
 fn prefix_with<'a, 'b>(
     alloc: Global,
-    room: u32,
+    levels_left: u32,
     xs: &'b [Terminal<'a>],
 ) -> Answer<'a, 'b, ReadFormula<'a>>
-    ensures { Reads formula_syntax (prefix_with (lower room)) xs.now result }
+    ensures { Reads formula_syntax (prefix_with (lower levels_left)) xs.now result }
 {
     match unary_in(xs) {
         Some(op) => {
-            let (operand, rest) = form_below(alloc, room, Form::Prefix, xs)?;
+            let (operand, rest) = form_below(alloc, levels_left, Form::Prefix, xs)?;
             Ok((ReadFormula::Under(op, Box::new(alloc, operand)?), rest))
         }
-        None => atom_with(alloc, room, xs),
+        None => atom_with(alloc, levels_left, xs),
     }
 }
 
@@ -270,17 +270,17 @@ fn prefix_with<'a, 'b>(
 #[tactic(auto, unfolding(crate::specs::Reading::and_with))]
 fn operand_with<'a, 'b>(
     alloc: Global,
-    room: u32,
+    levels_left: u32,
     op: ManyOperator,
     xs: &'b [Terminal<'a>],
 ) -> Answer<'a, 'b, ReadFormula<'a>>
-    ensures { Reads formula_syntax (operand_with op (lower room)) xs.now result }
+    ensures { Reads formula_syntax (operand_with op (lower levels_left)) xs.now result }
 {
-    let (first, rest) = prefix_with(alloc, room, xs)?;
+    let (first, rest) = prefix_with(alloc, levels_left, xs)?;
     match op {
         ManyOperator::Conjunction => Ok((first, rest)),
         ManyOperator::Disjunction => {
-            chain_after(alloc, room, ManyOperator::Conjunction, first, rest)
+            chain_after(alloc, levels_left, ManyOperator::Conjunction, first, rest)
         }
     }
 }
@@ -289,19 +289,19 @@ fn operand_with<'a, 'b>(
 #[cycle(read)]
 fn operands<'a, 'b>(
     alloc: Global,
-    room: u32,
+    levels_left: u32,
     op: ManyOperator,
     xs: &'b [Terminal<'a>],
 ) -> Answer<'a, 'b, Vec<ReadFormula<'a>>>
     ensures { Reads listed_syntax
-        (members (further op (operand_with op (lower room)))) xs.now result }
+        (members (further op (operand_with op (lower levels_left)))) xs.now result }
 {
     let mut operands = Vec::new(alloc);
-    let mut left = Left { terminals: xs };
+    let mut left = Rest { terminals: xs };
     while let Some(rest) = after_operator(op, left.terminals) {
-        let (operand, rest) = operand_with(alloc, room, op, rest)?;
+        let (operand, rest) = operand_with(alloc, levels_left, op, rest)?;
         operands.push(operand)?;
-        left = Left { terminals: rest };
+        left = Rest { terminals: rest };
     }
     Ok((operands, left.terminals))
 }
@@ -311,15 +311,15 @@ fn operands<'a, 'b>(
 #[tactic(auto, unfolding(crate::specs::Reading::chain_after))]
 fn chain_after<'a, 'b>(
     alloc: Global,
-    room: u32,
+    levels_left: u32,
     op: ManyOperator,
     first: ReadFormula<'a>,
     xs: &'b [Terminal<'a>],
 ) -> Answer<'a, 'b, ReadFormula<'a>>
     ensures { Reads formula_syntax
-        (chain_after op (operand_with op (lower room)) (formula_syntax first.entry)) xs.now result }
+        (chain_after op (operand_with op (lower levels_left)) (formula_syntax first.entry)) xs.now result }
 {
-    let (operands, rest) = operands(alloc, room, op, xs)?;
+    let (operands, rest) = operands(alloc, levels_left, op, xs)?;
     let formula = join(alloc, op, first, operands)?;
     Ok((formula, rest))
 }
@@ -329,18 +329,18 @@ fn chain_after<'a, 'b>(
 #[tactic(auto, unfolding(crate::specs::Reading::arrow_after, crate::specs::Reading::arrow_from))]
 fn arrow_after<'a, 'b>(
     alloc: Global,
-    room: u32,
+    levels_left: u32,
     kind: ArrowKind,
     left: ReadFormula<'a>,
     xs: &'b [Terminal<'a>],
 ) -> Answer<'a, 'b, ReadFormula<'a>>
     ensures { Reads formula_syntax
-        (arrow_after (lower room) kind (formula_syntax left.entry)) xs.now result }
+        (arrow_after (lower levels_left) kind (formula_syntax left.entry)) xs.now result }
 {
     if !begins_with_arrow(kind, xs) {
         return Ok((left, xs));
     }
-    let (right, rest) = form_below(alloc, room, Form::Right(kind), xs)?;
+    let (right, rest) = form_below(alloc, levels_left, Form::Right(kind), xs)?;
     let formula = between(alloc, operator_of(kind), left, right)?;
     Ok((formula, rest))
 }
@@ -350,20 +350,26 @@ fn arrow_after<'a, 'b>(
 #[tactic(auto, unfolding(crate::specs::Reading::or_after, crate::specs::Reading::imp_after, crate::specs::Reading::iff_after))]
 fn right_after<'a, 'b>(
     alloc: Global,
-    room: u32,
+    levels_left: u32,
     kind: ArrowKind,
     first: ReadFormula<'a>,
     xs: &'b [Terminal<'a>],
 ) -> Answer<'a, 'b, ReadFormula<'a>>
     ensures { Reads formula_syntax
-        (right_after kind (lower room) (formula_syntax first.entry)) xs.now result }
+        (right_after kind (lower levels_left) (formula_syntax first.entry)) xs.now result }
 {
-    let (formula, rest) = chain_after(alloc, room, ManyOperator::Conjunction, first, xs)?;
-    let (formula, rest) = chain_after(alloc, room, ManyOperator::Disjunction, formula, rest)?;
-    let (formula, rest) = arrow_after(alloc, room, ArrowKind::Single, formula, rest)?;
+    let (formula, rest) = chain_after(alloc, levels_left, ManyOperator::Conjunction, first, xs)?;
+    let (formula, rest) = chain_after(
+        alloc,
+        levels_left,
+        ManyOperator::Disjunction,
+        formula,
+        rest,
+    )?;
+    let (formula, rest) = arrow_after(alloc, levels_left, ArrowKind::Single, formula, rest)?;
     match kind {
         ArrowKind::Single => Ok((formula, rest)),
-        ArrowKind::Double => arrow_after(alloc, room, ArrowKind::Double, formula, rest),
+        ArrowKind::Double => arrow_after(alloc, levels_left, ArrowKind::Double, formula, rest),
     }
 }
 
@@ -372,20 +378,20 @@ fn right_after<'a, 'b>(
 #[tactic(auto, unfolding(crate::specs::Reading::formula_after, crate::specs::Reading::formula_from))]
 fn formula_after<'a, 'b>(
     alloc: Global,
-    room: u32,
+    levels_left: u32,
     first: ReadFormula<'a>,
     xs: &'b [Terminal<'a>],
 ) -> Answer<'a, 'b, ReadFormula<'a>>
     ensures { Reads formula_syntax
-        (formula_after (lower room) (formula_syntax first.entry)) xs.now result }
+        (formula_after (lower levels_left) (formula_syntax first.entry)) xs.now result }
 {
     let Some(op) = temporal_in(xs) else {
-        return right_after(alloc, room, ArrowKind::Double, first, xs);
+        return right_after(alloc, levels_left, ArrowKind::Double, first, xs);
     };
     match xs {
         [] => Err(ReadFault::Form(0)),
         [_, rest @ ..] => {
-            let (right, rest) = prefix_with(alloc, room, rest)?;
+            let (right, rest) = prefix_with(alloc, levels_left, rest)?;
             let formula = between(alloc, op, first, right)?;
             Ok((formula, rest))
         }

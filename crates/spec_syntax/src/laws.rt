@@ -14,118 +14,118 @@ ghost use Rattle.spec_syntax.specs.Texts.{SomeDeclarationsBegin, NoDeclarationsB
 
 /// A text of the grammar derives in one way, and it is one with more levels too, in the same way.
 pub fn grammar_has_one_reading()
-    ensures one { (room : ℕ) (xs : List Terminal) (a b : List SectionSyntax) → AreSections room xs a
-        → AreSections room xs b → a ≡ b }
-    ensures more { (more room : ℕ) (xs : List Terminal) (a : List SectionSyntax)
-        → AreSections room xs a → AreSections (more + room) xs a }
+    ensures one { (levels_left : ℕ) (xs : List Terminal) (a b : List SectionSyntax) → AreSections levels_left xs a
+        → AreSections levels_left xs b → a ≡ b }
+    ensures more { (more levels_left : ℕ) (xs : List Terminal) (a : List SectionSyntax)
+        → AreSections levels_left xs a → AreSections (more + levels_left) xs a }
 {}
 
 /// The tree of a formula, which keeps its brackets, tells the terminals that it is derived from, and
 /// how many levels it needs at least.
 pub fn trees_tell_their_texts()
-    ensures terminals { (room : ℕ) (xs : List Terminal) (a : FormulaSyntax) → IsFormula room xs a
+    ensures terminals { (levels_left : ℕ) (xs : List Terminal) (a : FormulaSyntax) → IsFormula levels_left xs a
         → xs ≡ written a }
-    ensures levels { (room : ℕ) (xs : List Terminal) (a : FormulaSyntax) → IsFormula room xs a
-        → depth a ≤ room }
+    ensures levels { (levels_left : ℕ) (xs : List Terminal) (a : FormulaSyntax) → IsFormula levels_left xs a
+        → depth a ≤ levels_left }
 {}
 
 /// The reading functions read exactly the texts of the grammar.
 pub fn reading_meets_the_grammar()
-    ensures derived { (room : ℕ) (xs : List Terminal) (a : List SectionSyntax)
+    ensures derived { (levels_left : ℕ) (xs : List Terminal) (a : List SectionSyntax)
         (rest : List Terminal)
-        → sections room xs ≡ Ok (a, rest) → (rest ≡ []) × AreSections room xs a }
-    ensures read { (room : ℕ) (xs : List Terminal) (a : List SectionSyntax) → AreSections room xs a
-        → sections room xs ≡ Ok (a, []) }
+        → sections levels_left xs ≡ Ok (a, rest) → (rest ≡ []) × AreSections levels_left xs a }
+    ensures read { (levels_left : ℕ) (xs : List Terminal) (a : List SectionSyntax) → AreSections levels_left xs a
+        → sections levels_left xs ≡ Ok (a, []) }
 {}
 
 /// A form fault of the reading functions is the first one: some text begins with the terminals before
 /// it, and none with those up to and with it, for any number of levels.
 pub fn form_faults_are_the_first()
-    ensures begins { (room : ℕ) (front rest : List Terminal)
-        → sections room (front ++ rest) ≡ Err (form (length rest)) → SomeTextBegins room front }
-    ensures stops { (room : ℕ) (front : List Terminal) (x : Terminal) (more : List Terminal)
-        → sections room (front ++ x ∷ more) ≡ Err (form (suc (length more)))
+    ensures begins { (levels_left : ℕ) (front rest : List Terminal)
+        → sections levels_left (front ++ rest) ≡ Err (form (length rest)) → SomeTextBegins levels_left front }
+    ensures stops { (levels_left : ℕ) (front : List Terminal) (x : Terminal) (more : List Terminal)
+        → sections levels_left (front ++ x ∷ more) ≡ Err (form (suc (length more)))
         → (any : ℕ) → NoTextBegins any (front ++ x ∷ []) }
-    ensures at_end { (room : ℕ) (xs : List Terminal) → sections room xs ≡ Err (form 0)
+    ensures at_end { (levels_left : ℕ) (xs : List Terminal) → sections levels_left xs ≡ Err (form 0)
         → (any : ℕ) → IsNoText any xs }
 {}
 
 /// So is a level too many: some text begins with the terminals before it, and none with those up to
 /// and with it, but one with two levels more.
 pub fn deep_faults_are_the_first()
-    ensures begins { (room : ℕ) (front : List Terminal) (x : Terminal) (more : List Terminal)
-        → sections room (front ++ x ∷ more) ≡ Err (deep (suc (length more)))
-        → SomeTextBegins room front }
-    ensures stops { (room : ℕ) (front : List Terminal) (x : Terminal) (more : List Terminal)
-        → sections room (front ++ x ∷ more) ≡ Err (deep (suc (length more)))
-        → NoTextBegins room (front ++ x ∷ []) }
-    ensures goes_on { (room : ℕ) (front : List Terminal) (x : Terminal) (more : List Terminal)
-        → sections room (front ++ x ∷ more) ≡ Err (deep (suc (length more)))
-        → SomeTextBegins (suc (suc room)) (front ++ x ∷ []) }
+    ensures begins { (levels_left : ℕ) (front : List Terminal) (x : Terminal) (more : List Terminal)
+        → sections levels_left (front ++ x ∷ more) ≡ Err (deep (suc (length more)))
+        → SomeTextBegins levels_left front }
+    ensures stops { (levels_left : ℕ) (front : List Terminal) (x : Terminal) (more : List Terminal)
+        → sections levels_left (front ++ x ∷ more) ≡ Err (deep (suc (length more)))
+        → NoTextBegins levels_left (front ++ x ∷ []) }
+    ensures goes_on { (levels_left : ℕ) (front : List Terminal) (x : Terminal) (more : List Terminal)
+        → sections levels_left (front ++ x ∷ more) ≡ Err (deep (suc (length more)))
+        → SomeTextBegins (suc (suc levels_left)) (front ++ x ∷ []) }
 {}
 
 /// A text of sections and definitions derives in one way, its sections from one list of terminals of
 /// their own; and it is a text with more levels too, in the same way.
 pub fn declarations_have_one_reading()
-    ensures one { (room : ℕ) (xs own other : List Terminal) (a b : List Declaration)
-        → AreDeclarations room xs own a → AreDeclarations room xs other b → a ≡ b }
-    ensures own { (room : ℕ) (xs own other : List Terminal) (a b : List Declaration)
-        → AreDeclarations room xs own a → AreDeclarations room xs other b → own ≡ other }
-    ensures more { (more room : ℕ) (xs own : List Terminal) (a : List Declaration)
-        → AreDeclarations room xs own a → AreDeclarations (more + room) xs own a }
+    ensures one { (levels_left : ℕ) (xs own other : List Terminal) (a b : List Declaration)
+        → AreDeclarations levels_left xs own a → AreDeclarations levels_left xs other b → a ≡ b }
+    ensures own { (levels_left : ℕ) (xs own other : List Terminal) (a b : List Declaration)
+        → AreDeclarations levels_left xs own a → AreDeclarations levels_left xs other b → own ≡ other }
+    ensures more { (more levels_left : ℕ) (xs own : List Terminal) (a : List Declaration)
+        → AreDeclarations levels_left xs own a → AreDeclarations (more + levels_left) xs own a }
 {}
 
 /// The sections of a text derive from the terminals of their own. A text without a definition is its
 /// sections, and sections are such a text.
 pub fn sections_stand_alone()
-    ensures derived { (room : ℕ) (xs own : List Terminal) (a : List Declaration)
-        → AreDeclarations room xs own a → AreSections room own (sections_among a) }
-    ensures only { (room : ℕ) (xs own : List Terminal) (a : List SectionSyntax)
-        → AreDeclarations room xs own (map the_section a)
-        → (own ≡ xs) × AreSections room xs a }
-    ensures all { (room : ℕ) (xs : List Terminal) (a : List SectionSyntax) → AreSections room xs a
-        → AreDeclarations room xs xs (map the_section a) }
+    ensures derived { (levels_left : ℕ) (xs own : List Terminal) (a : List Declaration)
+        → AreDeclarations levels_left xs own a → AreSections levels_left own (sections_among a) }
+    ensures only { (levels_left : ℕ) (xs own : List Terminal) (a : List SectionSyntax)
+        → AreDeclarations levels_left xs own (map the_section a)
+        → (own ≡ xs) × AreSections levels_left xs a }
+    ensures all { (levels_left : ℕ) (xs : List Terminal) (a : List SectionSyntax) → AreSections levels_left xs a
+        → AreDeclarations levels_left xs xs (map the_section a) }
 {}
 
 /// What is read of a text tells its names in their order, and so do the sections for the terminals of
 /// their own.
 pub fn declarations_tell_their_names()
-    ensures whole { (room : ℕ) (xs own : List Terminal) (a : List Declaration)
-        → AreDeclarations room xs own a → free_texts xs ≡ flat_map declaration_texts a }
-    ensures own { (room : ℕ) (xs own : List Terminal) (a : List Declaration)
-        → AreDeclarations room xs own a
+    ensures whole { (levels_left : ℕ) (xs own : List Terminal) (a : List Declaration)
+        → AreDeclarations levels_left xs own a → free_texts xs ≡ flat_map declaration_texts a }
+    ensures own { (levels_left : ℕ) (xs own : List Terminal) (a : List Declaration)
+        → AreDeclarations levels_left xs own a
         → free_texts own ≡ flat_map section_texts (sections_among a) }
 {}
 
 /// The reading functions read exactly the texts of sections and definitions.
 pub fn reading_meets_declarations()
-    ensures derived { (room : ℕ) (xs : List Terminal) (a : List Declaration) (rest : List Terminal)
-        → declarations room xs ≡ Ok (a, rest) → (rest ≡ []) × IsText room xs a }
-    ensures read { (room : ℕ) (xs : List Terminal) (a : List Declaration) → IsText room xs a
-        → declarations room xs ≡ Ok (a, []) }
+    ensures derived { (levels_left : ℕ) (xs : List Terminal) (a : List Declaration) (rest : List Terminal)
+        → declarations levels_left xs ≡ Ok (a, rest) → (rest ≡ []) × IsText levels_left xs a }
+    ensures read { (levels_left : ℕ) (xs : List Terminal) (a : List Declaration) → IsText levels_left xs a
+        → declarations levels_left xs ≡ Ok (a, []) }
 {}
 
 /// A form fault is the first one among sections and definitions too.
 pub fn form_faults_of_declarations_are_the_first()
-    ensures begins { (room : ℕ) (front rest : List Terminal)
-        → declarations room (front ++ rest) ≡ Err (form (length rest))
-        → SomeDeclarationsBegin room front }
-    ensures stops { (room : ℕ) (front : List Terminal) (x : Terminal) (more : List Terminal)
-        → declarations room (front ++ x ∷ more) ≡ Err (form (suc (length more)))
+    ensures begins { (levels_left : ℕ) (front rest : List Terminal)
+        → declarations levels_left (front ++ rest) ≡ Err (form (length rest))
+        → SomeDeclarationsBegin levels_left front }
+    ensures stops { (levels_left : ℕ) (front : List Terminal) (x : Terminal) (more : List Terminal)
+        → declarations levels_left (front ++ x ∷ more) ≡ Err (form (suc (length more)))
         → (any : ℕ) → NoDeclarationsBegin any (front ++ x ∷ []) }
-    ensures at_end { (room : ℕ) (xs : List Terminal) → declarations room xs ≡ Err (form 0)
+    ensures at_end { (levels_left : ℕ) (xs : List Terminal) → declarations levels_left xs ≡ Err (form 0)
         → (any : ℕ) → AreNoDeclarations any xs }
 {}
 
 /// And so is a level too many.
 pub fn deep_faults_of_declarations_are_the_first()
-    ensures begins { (room : ℕ) (front : List Terminal) (x : Terminal) (more : List Terminal)
-        → declarations room (front ++ x ∷ more) ≡ Err (deep (suc (length more)))
-        → SomeDeclarationsBegin room front }
-    ensures stops { (room : ℕ) (front : List Terminal) (x : Terminal) (more : List Terminal)
-        → declarations room (front ++ x ∷ more) ≡ Err (deep (suc (length more)))
-        → NoDeclarationsBegin room (front ++ x ∷ []) }
-    ensures goes_on { (room : ℕ) (front : List Terminal) (x : Terminal) (more : List Terminal)
-        → declarations room (front ++ x ∷ more) ≡ Err (deep (suc (length more)))
-        → SomeDeclarationsBegin (suc (suc room)) (front ++ x ∷ []) }
+    ensures begins { (levels_left : ℕ) (front : List Terminal) (x : Terminal) (more : List Terminal)
+        → declarations levels_left (front ++ x ∷ more) ≡ Err (deep (suc (length more)))
+        → SomeDeclarationsBegin levels_left front }
+    ensures stops { (levels_left : ℕ) (front : List Terminal) (x : Terminal) (more : List Terminal)
+        → declarations levels_left (front ++ x ∷ more) ≡ Err (deep (suc (length more)))
+        → NoDeclarationsBegin levels_left (front ++ x ∷ []) }
+    ensures goes_on { (levels_left : ℕ) (front : List Terminal) (x : Terminal) (more : List Terminal)
+        → declarations levels_left (front ++ x ∷ more) ≡ Err (deep (suc (length more)))
+        → SomeDeclarationsBegin (suc (suc levels_left)) (front ++ x ∷ []) }
 {}

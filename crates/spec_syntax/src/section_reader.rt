@@ -21,7 +21,7 @@ ghost use Rattle.spec_syntax.specs.internal.InnerView.{HasFaultOfMember};
 use crate::fault::ReadFault;
 use crate::formulas::{Form, form_with};
 use crate::syntax::{Closer, Part, Word};
-use crate::terminal::{Left, Terminal};
+use crate::terminal::{Rest, Terminal};
 use crate::terms::{Answer, close};
 use crate::trees::{ReadDeclaration, ReadEquation, ReadFormula, ReadSection};
 use std::alloc::Global;
@@ -40,7 +40,7 @@ fn after_semicolon<'a, 'b>(xs: &'b [Terminal<'a>]) -> Option<&'b [Terminal<'a>]>
     ensures some { IfSome result (λ rest.
         terminals_view xs.now ≡ mark Semicolon ∷ terminals_view rest.now) }
     ensures none { IfNone result
-        ((room : ℕ) (fs : List FormulaSyntax) → item room (item_last fs) (terminals_view xs.now)
+        ((levels_left : ℕ) (fs : List FormulaSyntax) → item levels_left (item_last fs) (terminals_view xs.now)
         ≡ None) }
     ensures shorter { IfSome result (λ rest. length rest.now < length xs.now) }
 {
@@ -53,18 +53,18 @@ fn after_semicolon<'a, 'b>(xs: &'b [Terminal<'a>]) -> Option<&'b [Terminal<'a>]>
 /// The formulas up to the brace that closes them.
 fn formulas<'a, 'b>(
     alloc: Global,
-    room: u32,
+    levels_left: u32,
     xs: &'b [Terminal<'a>],
 ) -> Answer<'a, 'b, Vec<ReadFormula<'a>>>
-    ensures { Reads listed_syntax (formulas room) xs.now result }
+    ensures { Reads listed_syntax (formulas levels_left) xs.now result }
 {
     let mut formulas = Vec::new(alloc);
-    let mut left = Left { terminals: xs };
+    let mut left = Rest { terminals: xs };
     while begins_item(left.terminals) {
-        let (formula, rest) = form_with(alloc, room, Form::Formula, left.terminals)?;
+        let (formula, rest) = form_with(alloc, levels_left, Form::Formula, left.terminals)?;
         formulas.push(formula)?;
         match after_semicolon(rest) {
-            Some(rest) => left = Left { terminals: rest },
+            Some(rest) => left = Rest { terminals: rest },
             None => return Ok((formulas, rest)),
         }
     }
@@ -75,15 +75,15 @@ fn formulas<'a, 'b>(
 #[tactic(auto, unfolding(crate::specs::Reading::items))]
 fn items<'a, 'b>(
     alloc: Global,
-    room: u32,
+    levels_left: u32,
     part: Part,
     xs: &'b [Terminal<'a>],
 ) -> Answer<'a, 'b, ReadSection<'a>>
-    ensures { Reads section_syntax (items room part) xs.now result }
+    ensures { Reads section_syntax (items levels_left part) xs.now result }
 {
     match xs {
         [Terminal::Mark(TokenKind::OpenBrace), rest @ ..] => {
-            let (formulas, rest) = formulas(alloc, room, rest)?;
+            let (formulas, rest) = formulas(alloc, levels_left, rest)?;
             let (_, rest) = close(Closer::Brace, rest)?;
             Ok((ReadSection { part, formulas }, rest))
         }
@@ -95,16 +95,16 @@ fn items<'a, 'b>(
 #[tactic(auto, unfolding(crate::specs::Reading::side))]
 fn side<'a, 'b>(
     alloc: Global,
-    room: u32,
+    levels_left: u32,
     assumed: Part,
     guaranteed: Part,
     xs: &'b [Terminal<'a>],
 ) -> Answer<'a, 'b, ReadSection<'a>>
-    ensures { Reads section_syntax (side room assumed guaranteed) xs.now result }
+    ensures { Reads section_syntax (side levels_left assumed guaranteed) xs.now result }
 {
     match xs {
-        [Terminal::Word(Word::Assume), rest @ ..] => items(alloc, room, assumed, rest),
-        [Terminal::Word(Word::Guarantee), rest @ ..] => items(alloc, room, guaranteed, rest),
+        [Terminal::Word(Word::Assume), rest @ ..] => items(alloc, levels_left, assumed, rest),
+        [Terminal::Word(Word::Guarantee), rest @ ..] => items(alloc, levels_left, guaranteed, rest),
         _ => Err(ReadFault::Form(xs.len())),
     }
 }
@@ -113,19 +113,37 @@ fn side<'a, 'b>(
 #[tactic(auto, unfolding(crate::specs::Reading::section_at))]
 fn section_at<'a, 'b>(
     alloc: Global,
-    room: u32,
+    levels_left: u32,
     xs: &'b [Terminal<'a>],
 ) -> Answer<'a, 'b, ReadSection<'a>>
-    ensures { Reads section_syntax (section_at room) xs.now result }
+    ensures { Reads section_syntax (section_at levels_left) xs.now result }
 {
     match xs {
         [Terminal::Word(Word::Always), rest @ ..] => {
-            side(alloc, room, Part::AssumeAlways, Part::GuaranteeAlways, rest)
+            side(
+                alloc,
+                levels_left,
+                Part::AssumeAlways,
+                Part::GuaranteeAlways,
+                rest,
+            )
         }
         [Terminal::Word(Word::Initially), rest @ ..] => {
-            side(alloc, room, Part::AssumeFirst, Part::GuaranteeFirst, rest)
+            side(
+                alloc,
+                levels_left,
+                Part::AssumeFirst,
+                Part::GuaranteeFirst,
+                rest,
+            )
         }
-        _ => side(alloc, room, Part::AssumeFirst, Part::GuaranteeFirst, xs),
+        _ => side(
+            alloc,
+            levels_left,
+            Part::AssumeFirst,
+            Part::GuaranteeFirst,
+            xs,
+        ),
     }
 }
 
@@ -133,19 +151,19 @@ fn section_at<'a, 'b>(
 #[tactic(auto, unfolding(crate::specs::Reading::section))]
 fn section<'a, 'b>(
     alloc: Global,
-    room: u32,
+    levels_left: u32,
     xs: &'b [Terminal<'a>],
 ) -> Result<Option<(ReadSection<'a>, &'b [Terminal<'a>])>, ReadFault>
-    ensures some { IfOk result (λ found. IfSome found (λ read. section room (terminals_view xs.now)
+    ensures some { IfOk result (λ found. IfSome found (λ read. section levels_left (terminals_view xs.now)
         ≡ Some (Ok (section_syntax read.0, terminals_view read.1.now)))) }
     ensures none { IfOk result (λ found.
-        IfNone found (section room (terminals_view xs.now) ≡ None)) }
-    ensures fault { IfErr result (HasFaultOfMember (section room (terminals_view xs.now))) }
+        IfNone found (section levels_left (terminals_view xs.now) ≡ None)) }
+    ensures fault { IfErr result (HasFaultOfMember (section levels_left (terminals_view xs.now))) }
 {
     if xs.is_empty() {
         return Ok(None);
     }
-    let read = section_at(alloc, room, xs)?;
+    let read = section_at(alloc, levels_left, xs)?;
     Ok(Some(read))
 }
 
@@ -153,16 +171,16 @@ fn section<'a, 'b>(
 #[tactic(auto, unfolding(crate::specs::Reading::sections))]
 pub fn sections<'a, 'b>(
     alloc: Global,
-    room: u32,
+    levels_left: u32,
     xs: &'b [Terminal<'a>],
 ) -> Answer<'a, 'b, Vec<ReadSection<'a>>>
-    ensures { Reads sections_syntax (sections room) xs.now result }
+    ensures { Reads sections_syntax (sections levels_left) xs.now result }
 {
     let mut sections = Vec::new(alloc);
-    let mut left = Left { terminals: xs };
-    while let Some((section, rest)) = section(alloc, room, left.terminals)? {
+    let mut left = Rest { terminals: xs };
+    while let Some((section, rest)) = section(alloc, levels_left, left.terminals)? {
         sections.push(section)?;
-        left = Left { terminals: rest };
+        left = Rest { terminals: rest };
     }
     Ok((sections, left.terminals))
 }
@@ -185,10 +203,10 @@ fn names<'a, 'b>(alloc: Global, xs: &'b [Terminal<'a>]) -> Answer<'a, 'b, Vec<&'
     ensures { Reads names_syntax (members name_at) xs.now result }
 {
     let mut names = Vec::new(alloc);
-    let mut left = Left { terminals: xs };
+    let mut left = Rest { terminals: xs };
     while let Some((name, rest)) = name_at(left.terminals) {
         names.push(name)?;
-        left = Left { terminals: rest };
+        left = Rest { terminals: rest };
     }
     Ok((names, left.terminals))
 }
@@ -205,10 +223,14 @@ fn parameters<'a, 'b>(alloc: Global, xs: &'b [Terminal<'a>]) -> Answer<'a, 'b, V
 
 /// What a definition stands for, and the semicolon behind it.
 #[tactic(auto, unfolding(crate::specs::Reading::body))]
-fn body<'a, 'b>(alloc: Global, room: u32, xs: &'b [Terminal<'a>]) -> Answer<'a, 'b, ReadFormula<'a>>
-    ensures { Reads formula_syntax (body room) xs.now result }
+fn body<'a, 'b>(
+    alloc: Global,
+    levels_left: u32,
+    xs: &'b [Terminal<'a>],
+) -> Answer<'a, 'b, ReadFormula<'a>>
+    ensures { Reads formula_syntax (body levels_left) xs.now result }
 {
-    let (formula, rest) = form_with(alloc, room, Form::Formula, xs)?;
+    let (formula, rest) = form_with(alloc, levels_left, Form::Formula, xs)?;
     let (_, rest) = close(Closer::Semicolon, rest)?;
     Ok((formula, rest))
 }
@@ -217,14 +239,14 @@ fn body<'a, 'b>(alloc: Global, room: u32, xs: &'b [Terminal<'a>]) -> Answer<'a, 
 #[tactic(auto, unfolding(crate::specs::Reading::definition))]
 fn definition<'a, 'b>(
     alloc: Global,
-    room: u32,
+    levels_left: u32,
     name: &'a [u8],
     xs: &'b [Terminal<'a>],
 ) -> Answer<'a, 'b, ReadEquation<'a>>
-    ensures { Reads equation_syntax (definition room name.now) xs.now result }
+    ensures { Reads equation_syntax (definition levels_left name.now) xs.now result }
 {
     let (parameters, rest) = parameters(alloc, xs)?;
-    let (body, rest) = body(alloc, room, rest)?;
+    let (body, rest) = body(alloc, levels_left, rest)?;
     let definition = ReadEquation {
         name,
         parameters,
@@ -236,12 +258,12 @@ fn definition<'a, 'b>(
 /// A section, as a declaration.
 fn section_declared<'a, 'b>(
     alloc: Global,
-    room: u32,
+    levels_left: u32,
     xs: &'b [Terminal<'a>],
 ) -> Answer<'a, 'b, ReadDeclaration<'a>>
-    ensures { Reads declaration_syntax (λ ys. map_read the_section (section_at room ys)) xs.now result }
+    ensures { Reads declaration_syntax (λ ys. map_read the_section (section_at levels_left ys)) xs.now result }
 {
-    let (section, rest) = section_at(alloc, room, xs)?;
+    let (section, rest) = section_at(alloc, levels_left, xs)?;
     Ok((ReadDeclaration::Section(section), rest))
 }
 
@@ -249,17 +271,17 @@ fn section_declared<'a, 'b>(
 #[tactic(auto, unfolding(crate::specs::Reading::declaration_at))]
 fn declaration_at<'a, 'b>(
     alloc: Global,
-    room: u32,
+    levels_left: u32,
     xs: &'b [Terminal<'a>],
 ) -> Answer<'a, 'b, ReadDeclaration<'a>>
-    ensures { Reads declaration_syntax (declaration_at room) xs.now result }
+    ensures { Reads declaration_syntax (declaration_at levels_left) xs.now result }
 {
     match xs {
         [Terminal::Free(name), rest @ ..] => {
-            let (definition, rest) = definition(alloc, room, *name, rest)?;
+            let (definition, rest) = definition(alloc, levels_left, *name, rest)?;
             Ok((ReadDeclaration::Definition(definition), rest))
         }
-        _ => section_declared(alloc, room, xs),
+        _ => section_declared(alloc, levels_left, xs),
     }
 }
 
@@ -267,40 +289,40 @@ fn declaration_at<'a, 'b>(
 #[tactic(auto, unfolding(crate::specs::Reading::declaration))]
 fn declaration<'a, 'b>(
     alloc: Global,
-    room: u32,
+    levels_left: u32,
     xs: &'b [Terminal<'a>],
 ) -> Result<Option<(ReadDeclaration<'a>, &'b [Terminal<'a>])>, ReadFault>
     ensures some { IfOk result (λ found. IfSome found (λ read.
-        declaration room (terminals_view xs.now)
+        declaration levels_left (terminals_view xs.now)
         ≡ Some (Ok (declaration_syntax read.0, terminals_view read.1.now)))) }
     ensures none { IfOk result (λ found.
-        IfNone found (declaration room (terminals_view xs.now) ≡ None)) }
+        IfNone found (declaration levels_left (terminals_view xs.now) ≡ None)) }
     ensures fault { IfErr result
-        (HasFaultOfMember (declaration room (terminals_view xs.now))) }
+        (HasFaultOfMember (declaration levels_left (terminals_view xs.now))) }
 {
     if xs.is_empty() {
         return Ok(None);
     }
-    let read = declaration_at(alloc, room, xs)?;
+    let read = declaration_at(alloc, levels_left, xs)?;
     Ok(Some(read))
 }
 
 /// The sections and definitions of a text, in order. It answers an `Ok` only where the text is these
-/// and nothing else. An `Err` has the first fault of the form or of a level above `room`, by how many
+/// and nothing else. An `Err` has the first fault of the form or of a level above `levels_left`, by how many
 /// terminals are left from it on, or says that memory ran out.
 #[tactic(auto, unfolding(crate::specs::Reading::declarations))]
 pub fn declarations<'a, 'b>(
     alloc: Global,
-    room: u32,
+    levels_left: u32,
     xs: &'b [Terminal<'a>],
 ) -> Answer<'a, 'b, Vec<ReadDeclaration<'a>>>
-    ensures { Reads declarations_syntax (declarations room) xs.now result }
+    ensures { Reads declarations_syntax (declarations levels_left) xs.now result }
 {
     let mut declarations = Vec::new(alloc);
-    let mut left = Left { terminals: xs };
-    while let Some((declaration, rest)) = declaration(alloc, room, left.terminals)? {
+    let mut left = Rest { terminals: xs };
+    while let Some((declaration, rest)) = declaration(alloc, levels_left, left.terminals)? {
         declarations.push(declaration)?;
-        left = Left { terminals: rest };
+        left = Rest { terminals: rest };
     }
     Ok((declarations, left.terminals))
 }

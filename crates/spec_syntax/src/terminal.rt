@@ -25,7 +25,7 @@ pub enum Terminal<'a> {
 
 /// The terminals that a loop has left.
 #[derive(Clone, Copy)]
-pub(crate) struct Left<'a, 'b> {
+pub(crate) struct Rest<'a, 'b> {
     pub(crate) terminals: &'b [Terminal<'a>],
 }
 

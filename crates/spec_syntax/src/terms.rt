@@ -16,7 +16,7 @@ ghost use Rattle.spec_syntax.specs.internal.InnerView.{arguments_view, arguments
 
 use crate::fault::ReadFault;
 use crate::syntax::Closer;
-use crate::terminal::{Left, Terminal};
+use crate::terminal::{Rest, Terminal};
 use crate::trees::{ReadTerm, ReadTerms};
 use sequence::NoMemory;
 use std::alloc::Global;
@@ -38,27 +38,27 @@ pub(crate) enum Arguments<'a> {
     TermLast(Vec<ReadTerm<'a>>),
 }
 
-/// The room of the level below, where there is one.
+/// The levels that are left below, where there are any.
 #[tactic(auto, using(crate::proofs::ReadLemmas::no_level, crate::proofs::ReadLemmas::one_level))]
-fn room_below(room: u32) -> Option<u32>
-    ensures some { IfSome result (λ below. lower room ≡ Some (above (lower below))) }
-    ensures smaller { IfSome result (λ below. below < room) }
-    ensures none { IfNone result (lower room ≡ None) }
+fn one_level_less(levels_left: u32) -> Option<u32>
+    ensures some { IfSome result (λ below. lower levels_left ≡ Some (above (lower below))) }
+    ensures smaller { IfSome result (λ below. below < levels_left) }
+    ensures none { IfNone result (lower levels_left ≡ None) }
 {
-    match room.checked_sub(1) {
+    match levels_left.checked_sub(1) {
         Some(below) => Some(below),
         None => None,
     }
 }
 
-/// The room of the level below. Where there is none, the first of the terminals is a level too many.
-pub(crate) fn level_below(room: u32, xs: &[Terminal]) -> Result<u32, ReadFault>
-    ensures ok { IfOk result (λ below. lower room ≡ Some (above (lower below))) }
-    ensures smaller { IfOk result (λ below. below < room) }
-    ensures none { IfErr result (λ fault. lower room ≡ None) }
+/// The levels that are left below. Where there are none, the first of the terminals is a level too many.
+pub(crate) fn level_below(levels_left: u32, xs: &[Terminal]) -> Result<u32, ReadFault>
+    ensures ok { IfOk result (λ below. lower levels_left ≡ Some (above (lower below))) }
+    ensures smaller { IfOk result (λ below. below < levels_left) }
+    ensures none { IfErr result (λ fault. lower levels_left ≡ None) }
     ensures fault { IfErr result (λ fault. fault ≡ Deep (length xs.now)) }
 {
-    match room_below(room) {
+    match one_level_less(levels_left) {
         Some(below) => Ok(below),
         None => Err(ReadFault::Deep(xs.len())),
     }
@@ -120,12 +120,12 @@ fn beyond(xs: &[Terminal]) -> ReadFault
 #[cycle(read)]
 fn term_then_bracket<'a, 'b>(
     alloc: Global,
-    room: u32,
+    levels_left: u32,
     xs: &'b [Terminal<'a>],
 ) -> Answer<'a, 'b, ReadTerm<'a>>
-    ensures { Reads term_syntax (bracketed_term (above (lower room))) xs.now result }
+    ensures { Reads term_syntax (bracketed_term (above (lower levels_left))) xs.now result }
 {
-    let (term, rest) = term_with(alloc, room, xs)?;
+    let (term, rest) = term_with(alloc, levels_left, xs)?;
     let (_, rest) = close(Closer::Round, rest)?;
     Ok((term, rest))
 }
@@ -134,12 +134,12 @@ fn term_then_bracket<'a, 'b>(
 #[cycle(read)]
 pub(crate) fn bracketed_term<'a, 'b>(
     alloc: Global,
-    room: u32,
+    levels_left: u32,
     xs: &'b [Terminal<'a>],
 ) -> Answer<'a, 'b, ReadTerm<'a>>
-    ensures { Reads term_syntax (below (lower room) bracketed_term) xs.now result }
+    ensures { Reads term_syntax (below (lower levels_left) bracketed_term) xs.now result }
 {
-    let below = level_below(room, xs)?;
+    let below = level_below(levels_left, xs)?;
     match xs {
         [] => Err(ReadFault::Form(0)),
         [_, rest @ ..] => term_then_bracket(alloc, below, rest),
@@ -151,14 +151,14 @@ pub(crate) fn bracketed_term<'a, 'b>(
 #[tactic(auto, unfolding(crate::specs::Reading::opened))]
 fn opened<'a, 'b>(
     alloc: Global,
-    room: u32,
+    levels_left: u32,
     xs: &'b [Terminal<'a>],
 ) -> Answer<'a, 'b, Option<ReadTerm<'a>>>
-    ensures { Reads (option_map term_syntax) (opened (lower room)) xs.now result }
+    ensures { Reads (option_map term_syntax) (opened (lower levels_left)) xs.now result }
 {
     match xs {
         [Terminal::Mark(TokenKind::CloseRound), rest @ ..] => Ok((None, rest)),
-        _ => match room_below(room) {
+        _ => match one_level_less(levels_left) {
             None => Err(beyond(xs)),
             Some(below) => {
                 let (term, rest) = term_then_bracket(alloc, below, xs)?;
@@ -263,10 +263,10 @@ fn goes_on(arguments: &Arguments, xs: &[Terminal]) -> bool
 #[tactic(auto, unfolding(crate::specs::Reading::argument))]
 fn first_argument<'a, 'b>(
     alloc: Global,
-    room: u32,
+    levels_left: u32,
     xs: &'b [Terminal<'a>],
 ) -> Answer<'a, 'b, Arguments<'a>>
-    ensures { Reads arguments_view (argument_wanted (lower room) fresh) xs.now result }
+    ensures { Reads arguments_view (argument_wanted (lower levels_left) fresh) xs.now result }
 {
     match xs {
         [Terminal::Free(name), rest @ ..] => {
@@ -274,7 +274,7 @@ fn first_argument<'a, 'b>(
             Ok((next, rest))
         }
         [Terminal::Mark(TokenKind::OpenRound), rest @ ..] => {
-            let (found, rest) = opened(alloc, room, rest)?;
+            let (found, rest) = opened(alloc, levels_left, rest)?;
             let next = with_brackets(alloc, found, Arguments::Fresh)?;
             Ok((next, rest))
         }
@@ -287,13 +287,13 @@ fn first_argument<'a, 'b>(
 #[tactic(auto, unfolding(crate::specs::Reading::argument))]
 fn argument_after_name<'a, 'b>(
     alloc: Global,
-    room: u32,
+    levels_left: u32,
     terms: Vec<ReadTerm<'a>>,
     last: &'a [u8],
     xs: &'b [Terminal<'a>],
 ) -> Answer<'a, 'b, Arguments<'a>>
     ensures { Reads arguments_view
-        (argument_wanted (lower room) (name_last (map term_syntax terms.entry.items) last.now))
+        (argument_wanted (lower levels_left) (name_last (map term_syntax terms.entry.items) last.now))
         xs.now result }
 {
     match xs {
@@ -302,7 +302,7 @@ fn argument_after_name<'a, 'b>(
             Ok((next, rest))
         }
         [Terminal::Mark(TokenKind::OpenRound), rest @ ..] => {
-            let (found, rest) = opened(alloc, room, rest)?;
+            let (found, rest) = opened(alloc, levels_left, rest)?;
             let next = with_brackets(alloc, found, Arguments::NameLast(terms, last))?;
             Ok((next, rest))
         }
@@ -315,12 +315,12 @@ fn argument_after_name<'a, 'b>(
 #[tactic(auto, unfolding(crate::specs::Reading::argument))]
 fn argument_after_term<'a, 'b>(
     alloc: Global,
-    room: u32,
+    levels_left: u32,
     terms: Vec<ReadTerm<'a>>,
     xs: &'b [Terminal<'a>],
 ) -> Answer<'a, 'b, Arguments<'a>>
     ensures { Reads arguments_view
-        (argument_wanted (lower room) (term_last (map term_syntax terms.entry.items)))
+        (argument_wanted (lower levels_left) (term_last (map term_syntax terms.entry.items)))
         xs.now result }
 {
     match xs {
@@ -329,7 +329,7 @@ fn argument_after_term<'a, 'b>(
             Ok((next, rest))
         }
         [Terminal::Mark(TokenKind::OpenRound), ..] => {
-            let (term, rest) = bracketed_term(alloc, room, xs)?;
+            let (term, rest) = bracketed_term(alloc, levels_left, xs)?;
             let next = with_term(alloc, Arguments::TermLast(terms), term)?;
             Ok((next, rest))
         }
@@ -342,18 +342,24 @@ fn argument_after_term<'a, 'b>(
 #[tactic(auto, unfolding(crate::specs::Reading::argument))]
 fn argument<'a, 'b>(
     alloc: Global,
-    room: u32,
+    levels_left: u32,
     arguments: Arguments<'a>,
     xs: &'b [Terminal<'a>],
 ) -> Answer<'a, 'b, Arguments<'a>>
     ensures { Reads arguments_view
-        (argument_wanted (lower room) (arguments_view arguments.entry)) xs.now result }
+        (argument_wanted (lower levels_left) (arguments_view arguments.entry)) xs.now result }
 {
     match arguments {
         Arguments::Empty => Err(ReadFault::Form(xs.len())),
-        Arguments::Fresh => first_argument(alloc, room, xs),
-        Arguments::NameLast(terms, last) => argument_after_name(alloc, room, terms, last, xs),
-        Arguments::TermLast(terms) => argument_after_term(alloc, room, terms, xs),
+        Arguments::Fresh => first_argument(alloc, levels_left, xs),
+        Arguments::NameLast(terms, last) => argument_after_name(
+            alloc,
+            levels_left,
+            terms,
+            last,
+            xs,
+        ),
+        Arguments::TermLast(terms) => argument_after_term(alloc, levels_left, terms, xs),
     }
 }
 
@@ -362,17 +368,17 @@ fn argument<'a, 'b>(
 #[tactic(auto, unfolding(crate::specs::Reading::after_name))]
 pub(crate) fn after_name<'a, 'b>(
     alloc: Global,
-    room: u32,
+    levels_left: u32,
     xs: &'b [Terminal<'a>],
 ) -> Answer<'a, 'b, Option<Vec<ReadTerm<'a>>>>
-    ensures { Reads arguments_syntax (after_name (lower room)) xs.now result }
+    ensures { Reads arguments_syntax (after_name (lower levels_left)) xs.now result }
 {
     let mut arguments = Arguments::Fresh;
-    let mut left = Left { terminals: xs };
+    let mut left = Rest { terminals: xs };
     while goes_on(&arguments, left.terminals) {
-        let (next, rest) = argument(alloc, room, arguments, left.terminals)?;
+        let (next, rest) = argument(alloc, levels_left, arguments, left.terminals)?;
         arguments = next;
-        left = Left { terminals: rest };
+        left = Rest { terminals: rest };
     }
     let terms = arguments_of(alloc, arguments)?;
     Ok((terms, left.terminals))
@@ -418,19 +424,19 @@ fn term_named<'a>(
 #[tactic(auto, unfolding(crate::specs::Reading::term_with))]
 pub(crate) fn term_with<'a, 'b>(
     alloc: Global,
-    room: u32,
+    levels_left: u32,
     xs: &'b [Terminal<'a>],
 ) -> Answer<'a, 'b, ReadTerm<'a>>
-    ensures { Reads term_syntax (term_with (lower room)) xs.now result }
+    ensures { Reads term_syntax (term_with (lower levels_left)) xs.now result }
 {
     match xs {
         [Terminal::Free(name), rest @ ..] => {
-            let (arguments, rest) = after_name(alloc, room, rest)?;
+            let (arguments, rest) = after_name(alloc, levels_left, rest)?;
             let term = term_named(alloc, name, arguments)?;
             Ok((term, rest))
         }
         [Terminal::Mark(TokenKind::OpenRound), ..] => {
-            let (term, rest) = bracketed_term(alloc, room, xs)?;
+            let (term, rest) = bracketed_term(alloc, levels_left, xs)?;
             Ok((ReadTerm::Grouped(Box::new(alloc, term)?), rest))
         }
         _ => Err(ReadFault::Form(xs.len())),

@@ -53,41 +53,41 @@ module _ {T V W : Type 0} where
 
 -- ---- forms that are read exactly, and that some terminals are
 
-pub record Form {T V : Type 0} (Is : Grammar T V) (ends : T → Type 0) (room : ℕ) (reader : Reader T V) : Type 0 where
-  pub exact : Exact Is ends room reader
+pub record Form {T V : Type 0} (Is : Grammar T V) (ends : T → Type 0) (levels_left : ℕ) (reader : Reader T V) : Type 0 where
+  pub exact : Exact Is ends levels_left reader
   pub begins : (r : ℕ) → Begins (Is r) []
 
-pub one_terminal : {T V : Type 0} (value : T → Option V) (room : ℕ) → HasExample value → Form (λ r. IsOne value) Any room (taking value)
-one_terminal value room e = record { exact = taken_exact value e room; begins = λ r. taken_begins value e 0 }
+pub one_terminal : {T V : Type 0} (value : T → Option V) (levels_left : ℕ) → HasExample value → Form (λ r. IsOne value) Any levels_left (taking value)
+one_terminal value levels_left e = record { exact = taken_exact value e levels_left; begins = λ r. taken_begins value e 0 }
 
 module _ {T V W : Type 0} where
-  pub mapped_form : {Is : Grammar T V} {ends : T → Type 0} {room : ℕ} {reader : Reader T V} (make : V → W) → Form Is ends room reader →
-      Form (IsMapped make Is) ends room (λ xs. map_read make (reader xs))
+  pub mapped_form : {Is : Grammar T V} {ends : T → Type 0} {levels_left : ℕ} {reader : Reader T V} (make : V → W) → Form Is ends levels_left reader →
+      Form (IsMapped make Is) ends levels_left (λ xs. map_read make (reader xs))
   mapped_form {Is = Is} make k = record { exact = mapped_exact make k.exact; begins = λ r. mapped_begins make Is r (k.begins r) }
 
-  pub then_form : {Is : List T → V → Type 0} {Next : V → Grammar T W} {ends : T → Type 0} {room : ℕ} {reader : Reader T V}
-      {next : V → Reader T W} → Form (λ r. Is) Any room reader → ((v : V) → Form (Next v) ends room (next v)) →
-      Form (Then Is Next) ends room (λ xs. and_then (reader xs) next)
+  pub then_form : {Is : List T → V → Type 0} {Next : V → Grammar T W} {ends : T → Type 0} {levels_left : ℕ} {reader : Reader T V}
+      {next : V → Reader T W} → Form (λ r. Is) Any levels_left reader → ((v : V) → Form (Next v) ends levels_left (next v)) →
+      Form (Then Is Next) ends levels_left (λ xs. and_then (reader xs) next)
   then_form {Is = Is} {Next = Next} k second = record {
     exact = then_exact (λ r v. (second v).begins r) k.exact (λ v. (second v).exact);
     begins = λ r. then_begins Is Next r (k.begins r) (λ v. (second v).begins r);
   }
 
   -- before some terminals, with which each further form begins
-  pub before_form : {Is : List T → V → Type 0} {Next : V → Grammar T W} {firsts ends : T → Type 0} {room : ℕ} {reader : Reader T V}
+  pub before_form : {Is : List T → V → Type 0} {Next : V → Grammar T W} {firsts ends : T → Type 0} {levels_left : ℕ} {reader : Reader T V}
       {next : V → Reader T W} →
       ((r : ℕ) (v : V) (xs : List T) (w : W) → Next v r xs w → (rest : List T) → Before ends rest → Before firsts (xs ++ rest)) →
-      Form (λ r. Is) firsts room reader → ((v : V) → Form (Next v) ends room (next v)) →
-      Form (Then Is Next) ends room (λ xs. and_then (reader xs) next)
+      Form (λ r. Is) firsts levels_left reader → ((v : V) → Form (Next v) ends levels_left (next v)) →
+      Form (Then Is Next) ends levels_left (λ xs. and_then (reader xs) next)
   before_form {Is = Is} {Next = Next} follow k second = record {
     exact = then_before (λ r v. (second v).begins r) follow k.exact (λ v. (second v).exact);
     begins = λ r. then_begins Is Next r (k.begins r) (λ v. (second v).begins r);
   }
 
 -- the same in other words
-pub other_form : {T V : Type 0} {Is Others : Grammar T V} {ends fewer : T → Type 0} {room : ℕ} {reader : Reader T V} →
+pub other_form : {T V : Type 0} {Is Others : Grammar T V} {ends fewer : T → Type 0} {levels_left : ℕ} {reader : Reader T V} →
     ((r : ℕ) (xs : List T) (v : V) → Is r xs v → Others r xs v) → ((r : ℕ) (xs : List T) (v : V) → Others r xs v → Is r xs v) →
-    ((x : T) → fewer x → ends x) → Form Is ends room reader → Form Others fewer room reader
+    ((x : T) → fewer x → ends x) → Form Is ends levels_left reader → Form Others fewer levels_left reader
 other_form to from weaker k = record {
   exact = exact_as to from weaker k.exact;
   begins = λ r. record {
@@ -104,16 +104,16 @@ abbrev pub IsByKind : {E : Type 0} → (NameKind → Grammar TextToken E) → Gr
 IsByKind IsForm = Then (IsOne kind_at) IsForm
 
 module _ {E : Type 0} (read : NameKind → Reader TextToken E) (IsForm : NameKind → Grammar TextToken E) {each : TextToken → Type 0}
-    (form : (kind : NameKind) (room : ℕ) → Form (IsForm kind) each room (read kind))
+    (form : (kind : NameKind) (levels_left : ℕ) → Form (IsForm kind) each levels_left (read kind))
     (lift_form : (kind : NameKind) (r : ℕ) (xs : List TextToken) (e : E) → IsForm kind r xs e → IsForm kind (suc (suc r)) xs e)
     (named : (x : TextToken) → is_name_token x ≡ true → each x) where
-  whole_exact : (room : ℕ) → Exact (IsByKind IsForm) each room (λ xs. and_then (taking kind_at xs) read)
-  whole_exact room = (then_form (one_terminal kind_at room has_kind) (λ kind. form kind room)).exact
+  whole_exact : (levels_left : ℕ) → Exact (IsByKind IsForm) each levels_left (λ xs. and_then (taking kind_at xs) read)
+  whole_exact levels_left = (then_form (one_terminal kind_at levels_left has_kind) (λ kind. form kind levels_left)).exact
 
-  pub by_kind : (room : ℕ) → Member (IsByKind IsForm) each Never room (member_by read) (λ x. is_some (kind_at x))
+  pub by_kind : (levels_left : ℕ) → Member (IsByKind IsForm) each Never levels_left (member_by read) (λ x. is_some (kind_at x))
       (λ xs. and_then (taking kind_at xs) read)
   unfolding taking
-  by_kind room = record {
+  by_kind levels_left = record {
     at_end = refl;
     none = λ x rest e. none_here (kind_at x) rest e;
     some = λ x rest e. some_here (kind_at x) x rest e;
@@ -122,7 +122,7 @@ module _ {E : Type 0} (read : NameKind → Reader TextToken E) (IsForm : NameKin
     follows = λ x e. follows x (kind_at x) refl e;
     stops = λ x e. absurd e;
     weaker = λ x e. absurd e;
-    turn = λ x e. turn_of (whole_exact room) x;
+    turn = λ x e. turn_of (whole_exact levels_left) x;
   } where
     none_here : (o : Option NameKind) (rest : List TextToken) → is_some o ≡ false →
         option_map (λ (f : NameKind × List TextToken). read f.0 f.1) (option_map (λ kind. (kind, rest)) o) ≡ None
@@ -213,18 +213,18 @@ module _ {E V : Type 0} {head word : List ℕ} {Are : List TextToken → List E 
         second = (tt, refl, refl);
       }))))
 
-pub at_the_end : (room : ℕ) → Form (IsEnd {T = TextToken}) Never room at_end
-at_the_end room = record { exact = end_exact room; begins = λ r. end_begins }
+pub at_the_end : (levels_left : ℕ) → Form (IsEnd {T = TextToken}) Never levels_left at_end
+at_the_end levels_left = record { exact = end_exact levels_left; begins = λ r. end_begins }
 
 module _ {E V : Type 0} {head word : List ℕ} (has_head : HasExample (word_at head)) (has_second : HasExample (word_at word))
     {Are : List TextToken → List E → Type 0} {read : Reader TextToken (List E)}
-    (form : (room : ℕ) → Form (λ r. Are) Never room read) (made : ℕ → List E → V) where
-  pub headed_exact : (room : ℕ) → Exact (IsHeaded head word Are made) Never room (headed_text head word read made)
-  headed_exact room =
-      (then_form (one_terminal (word_at head) room has_head) (λ _. then_form (one_terminal (numeral_at (codes "1")) room has_one) (λ _.
-      then_form (one_terminal (word_at word) room has_second) (λ _. then_form (one_terminal positive_at room has_positive) (λ n.
-      before_form (λ r es xs v h rest b. nothing_follows Never (λ _. made n es) r xs v h rest b) (form room)
-      (λ es. mapped_form (λ _. made n es) (at_the_end room))))))).exact
+    (form : (levels_left : ℕ) → Form (λ r. Are) Never levels_left read) (made : ℕ → List E → V) where
+  pub headed_exact : (levels_left : ℕ) → Exact (IsHeaded head word Are made) Never levels_left (headed_text head word read made)
+  headed_exact levels_left =
+      (then_form (one_terminal (word_at head) levels_left has_head) (λ _. then_form (one_terminal (numeral_at (codes "1")) levels_left has_one) (λ _.
+      then_form (one_terminal (word_at word) levels_left has_second) (λ _. then_form (one_terminal positive_at levels_left has_positive) (λ n.
+      before_form (λ r es xs v h rest b. nothing_follows Never (λ _. made n es) r xs v h rest b) (form levels_left)
+      (λ es. mapped_form (λ _. made n es) (at_the_end levels_left))))))).exact
 
 pub headed_end : {E V : Type 0} (head word : List ℕ) (read : Reader TextToken (List E)) (made : ℕ → List E → V) →
     Ends (headed_text head word read made)

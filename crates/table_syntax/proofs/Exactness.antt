@@ -76,12 +76,12 @@ IsNumber xs n = (x : TextToken) × (xs ≡ x ∷ []) × (number_at x ≡ Some n)
 abbrev pub NoNumber : TextToken → Type 0
 NoNumber x = number_at x ≡ None
 
-pub number_exact : (room : ℕ) → Exact (λ r. IsNumber) Any room (taking number_at)
-number_exact room = taken_exact number_at has_number room
+pub number_exact : (levels_left : ℕ) → Exact (λ r. IsNumber) Any levels_left (taking number_at)
+number_exact levels_left = taken_exact number_at has_number levels_left
 
-number_members : (room : ℕ) → Member (λ r. IsNumber) Any NoNumber room number_member (λ x. is_some (number_at x)) (taking number_at)
+number_members : (levels_left : ℕ) → Member (λ r. IsNumber) Any NoNumber levels_left number_member (λ x. is_some (number_at x)) (taking number_at)
 unfolding taking
-number_members room = record {
+number_members levels_left = record {
   at_end = refl;
   none = λ x rest e. none_here (number_at x) rest e;
   some = λ x rest e. some_here (number_at x) x rest e;
@@ -90,7 +90,7 @@ number_members room = record {
   follows = λ x e. tt;
   stops = λ x e. ap is_some e;
   weaker = λ x e. tt;
-  turn = λ x e. turn_of (number_exact room) x;
+  turn = λ x e. turn_of (number_exact levels_left) x;
 } where
   none_here : (o : Option ℕ) (rest : List TextToken) → is_some o ≡ false → number_or_none o rest ≡ None
   none_here None rest e = refl
@@ -113,9 +113,9 @@ all_numbers : (r : ℕ) (xs : List TextToken) (ns : List ℕ) → AreNumbers xs 
 all_numbers r xs ns no_number = none
 all_numbers r xs ns (more_numbers {xs = ys} {ns = ms} x n e h) = some {f = x ∷ []} (x, refl, e) (all_numbers r ys ms h)
 
-pub numbers_exact : (room : ℕ) → Exact (λ r. AreNumbers) NoNumber room numbers
+pub numbers_exact : (levels_left : ℕ) → Exact (λ r. AreNumbers) NoNumber levels_left numbers
 unfolding numbers
-numbers_exact room = exact_as are_numbers all_numbers (λ x e. e) (members_exact (number_members room))
+numbers_exact levels_left = exact_as are_numbers all_numbers (λ x e. e) (members_exact (number_members levels_left))
 
 pub numbers_shrink : Shrinks (push number_member)
 numbers_shrink = step_shrinks (stepping (number_members 0))
@@ -128,27 +128,27 @@ IsForm Signal = Then (IsOne name_at) (λ name. IsMapped (λ n. entry_made Signal
 IsForm Function = Then (IsOne symbol_at) (λ name. IsMapped (entry_made Function name) (λ r. AreNumbers))
 IsForm Predicate = Then (IsOne symbol_at) (λ name. IsMapped (entry_made Predicate name) (λ r. AreNumbers))
 
-pub number_form : (room : ℕ) → Form (λ r. IsNumber) Any room (taking number_at)
-number_form room = one_terminal number_at room has_number
+pub number_form : (levels_left : ℕ) → Form (λ r. IsNumber) Any levels_left (taking number_at)
+number_form levels_left = one_terminal number_at levels_left has_number
 
-numbers_form : (room : ℕ) → Form (λ r. AreNumbers) NoNumber room numbers
-numbers_form room = record { exact = numbers_exact room; begins = λ r. record { ending = []; value = []; derives = no_number } }
+numbers_form : (levels_left : ℕ) → Form (λ r. AreNumbers) NoNumber levels_left numbers
+numbers_form levels_left = record { exact = numbers_exact levels_left; begins = λ r. record { ending = []; value = []; derives = no_number } }
 
-form : (kind : NameKind) (room : ℕ) → Form (IsForm kind) NoNumber room (entry_of_kind kind)
+form : (kind : NameKind) (levels_left : ℕ) → Form (IsForm kind) NoNumber levels_left (entry_of_kind kind)
 unfolding entry_of_kind
-form Signal room =
-    then_form (one_terminal name_at room has_name)
-    (λ name. other_form (λ r xs v h. h) (λ r xs v h. h) (λ x e. tt) (mapped_form (λ n. entry_made Signal name (n ∷ [])) (number_form room)))
-form Function room = then_form (one_terminal symbol_at room has_symbol) (λ name. mapped_form (entry_made Function name) (numbers_form room))
-form Predicate room =
-    then_form (one_terminal symbol_at room has_symbol) (λ name. mapped_form (entry_made Predicate name) (numbers_form room))
+form Signal levels_left =
+    then_form (one_terminal name_at levels_left has_name)
+    (λ name. other_form (λ r xs v h. h) (λ r xs v h. h) (λ x e. tt) (mapped_form (λ n. entry_made Signal name (n ∷ [])) (number_form levels_left)))
+form Function levels_left = then_form (one_terminal symbol_at levels_left has_symbol) (λ name. mapped_form (entry_made Function name) (numbers_form levels_left))
+form Predicate levels_left =
+    then_form (one_terminal symbol_at levels_left has_symbol) (λ name. mapped_form (entry_made Predicate name) (numbers_form levels_left))
 
 lift_form : (kind : NameKind) (r : ℕ) (xs : List TextToken) (e : Entry) → IsForm kind r xs e → IsForm kind (suc (suc r)) xs e
 lift_form Signal r xs e h = elsewhere (λ v ys k. k) h
 lift_form Function r xs e h = elsewhere (λ v ys k. k) h
 lift_form Predicate r xs e h = elsewhere (λ v ys k. k) h
 
-entry_members : (room : ℕ) → Member (IsByKind IsForm) NoNumber Never room entry_member (λ x. is_some (kind_at x))
+entry_members : (levels_left : ℕ) → Member (IsByKind IsForm) NoNumber Never levels_left entry_member (λ x. is_some (kind_at x))
     (λ xs. and_then (taking kind_at xs) entry_of_kind)
 entry_members = by_kind entry_of_kind IsForm form lift_form name_no_number
 
@@ -184,9 +184,9 @@ all_entries : (r : ℕ) (xs : List TextToken) (es : List Entry) → AreEntries x
 all_entries r xs es no_entry = none
 all_entries r xs es (more_entries {xs = ys} {ys = zs} {e = e} {es = ds} h rest) = some (is_entry r ys e h) (all_entries r zs ds rest)
 
-pub entries_exact : (room : ℕ) → Exact (λ r. AreEntries) Never room entries
+pub entries_exact : (levels_left : ℕ) → Exact (λ r. AreEntries) Never levels_left entries
 unfolding entries
-entries_exact room = exact_as are_entries all_entries (λ x e. e) (members_exact (entry_members room))
+entries_exact levels_left = exact_as are_entries all_entries (λ x e. e) (members_exact (entry_members levels_left))
 
 pub entries_shrink : Shrinks (push entry_member)
 entries_shrink = step_shrinks (stepping (entry_members 0))
@@ -203,14 +203,14 @@ after_none w x rest e = ap (λ b. if b then Some rest else None) e
 after_some : (w : List ℕ) (x : TextToken) (rest : List TextToken) → is_word w x ≡ true → after_word w (x ∷ rest) ≡ Some rest
 after_some w x rest e = ap (λ b. if b then Some rest else None) e
 
-column_members : (room : ℕ) → Member (IsAfter (is_word (codes "input")) (λ r. IsOne name_at)) Any
-    (NoWord (codes "input")) room column_member
+column_members : (levels_left : ℕ) → Member (IsAfter (is_word (codes "input")) (λ r. IsOne name_at)) Any
+    (NoWord (codes "input")) levels_left column_member
     (is_word (codes "input")) (after (is_word (codes "input")) (taking name_at))
-column_members room =
+column_members levels_left =
     marked_member (is_word (codes "input")) (name_example (codes "input")) refl (taken_begins name_at has_name 0) (λ r xs v h. h) refl
     (λ x rest e. ap (option_map (taking name_at)) (after_none (codes "input") x rest e))
     (λ x rest e. ap (option_map (taking name_at)) (after_some (codes "input") x rest e)) (λ x e. tt) (λ x e. e) (λ x e. tt)
-    (taken_exact name_at has_name room)
+    (taken_exact name_at has_name levels_left)
 
 are_columns : (r : ℕ) (xs ns : List TextToken) → AreAll (IsAfter (is_word (codes "input")) (λ r. IsOne name_at)) r xs ns → AreColumns xs ns
 are_columns r xs ns none = no_column
@@ -225,9 +225,9 @@ all_columns r xs ns no_column = none
 all_columns r xs ns (more_columns {xs = ys} {ns = ms} x y word name h) =
     some {f = x ∷ y ∷ []} (word, (y, refl, name_taken y name)) (all_columns r ys ms h)
 
-pub columns_exact : (room : ℕ) → Exact (λ r. AreColumns) (NoWord (codes "input")) room columns
+pub columns_exact : (levels_left : ℕ) → Exact (λ r. AreColumns) (NoWord (codes "input")) levels_left columns
 unfolding columns
-columns_exact room = exact_as are_columns all_columns (λ x e. e) (members_exact (column_members room))
+columns_exact levels_left = exact_as are_columns all_columns (λ x e. e) (members_exact (column_members levels_left))
 
 pub columns_shrink : Shrinks (push column_member)
 columns_shrink = step_shrinks (stepping (column_members 0))
@@ -236,13 +236,13 @@ columns_shrink = step_shrinks (stepping (column_members 0))
 abbrev pub NoRow : TextToken → Type 0
 NoRow x = NoWord (codes "row") x × NoNumber x
 
-row_members : (room : ℕ) → Member (IsAfter (is_word (codes "row")) (λ r. AreNumbers)) NoNumber NoRow room row_member
+row_members : (levels_left : ℕ) → Member (IsAfter (is_word (codes "row")) (λ r. AreNumbers)) NoNumber NoRow levels_left row_member
     (is_word (codes "row")) (after (is_word (codes "row")) numbers)
-row_members room =
+row_members levels_left =
     marked_member (is_word (codes "row")) (name_example (codes "row")) refl ((numbers_form 0).begins 0) (λ r xs v h. h) refl
     (λ x rest e. ap (option_map numbers) (after_none (codes "row") x rest e))
     (λ x rest e. ap (option_map numbers) (after_some (codes "row") x rest e)) (λ x e. name_no_number x (word_is_name (codes "row") x e))
-    (λ x e. e.0) (λ x e. e.1) (numbers_exact room)
+    (λ x e. e.0) (λ x e. e.1) (numbers_exact levels_left)
 
 are_rows : (r : ℕ) (xs : List TextToken) (ns : List (List ℕ)) → AreAll (IsAfter (is_word (codes "row")) (λ r. AreNumbers)) r xs ns →
     AreRows xs ns
@@ -255,9 +255,9 @@ all_rows : (r : ℕ) (xs : List TextToken) (ns : List (List ℕ)) → AreRows xs
 all_rows r xs ns no_row = none
 all_rows r xs ns (more_rows {xs = ys} {ys = zs} {ns = n} {rows = ms} x word h rest) = some {f = x ∷ ys} (word, h) (all_rows r zs ms rest)
 
-pub rows_exact : (room : ℕ) → Exact (λ r. AreRows) NoRow room rows
+pub rows_exact : (levels_left : ℕ) → Exact (λ r. AreRows) NoRow levels_left rows
 unfolding rows
-rows_exact room = exact_as are_rows all_rows (λ x e. e) (members_exact (row_members room))
+rows_exact levels_left = exact_as are_rows all_rows (λ x e. e) (members_exact (row_members levels_left))
 
 pub rows_shrink : Shrinks (push row_member)
 rows_shrink = step_shrinks (stepping (row_members 0))
@@ -265,23 +265,23 @@ rows_shrink = step_shrinks (stepping (row_members 0))
 abbrev IsRow : Grammar TextToken (List ℕ)
 IsRow = Then (IsOne (word_at (codes "row"))) (λ _ r. AreNumbers)
 
-row_form : (room : ℕ) → Form IsRow NoNumber room row
+row_form : (levels_left : ℕ) → Form IsRow NoNumber levels_left row
 unfolding row
-row_form room = then_form (one_terminal (word_at (codes "row")) room (has_word (codes "row") refl)) (λ v. numbers_form room)
+row_form levels_left = then_form (one_terminal (word_at (codes "row")) levels_left (has_word (codes "row") refl)) (λ v. numbers_form levels_left)
 
-rows_form : (room : ℕ) → Form (λ r. AreRows) NoRow room rows
-rows_form room = record { exact = rows_exact room; begins = λ r. record { ending = []; value = []; derives = no_row } }
+rows_form : (levels_left : ℕ) → Form (λ r. AreRows) NoRow levels_left rows
+rows_form levels_left = record { exact = rows_exact levels_left; begins = λ r. record { ending = []; value = []; derives = no_row } }
 
 -- a row and further rows
 abbrev AreSome : Grammar TextToken (List (List ℕ))
 AreSome = Then (IsRow 0) (λ first. IsMapped (λ rest. first ∷ rest) (λ r. AreRows))
 
-some_form : (room : ℕ) → Form AreSome NoRow room some_rows
+some_form : (levels_left : ℕ) → Form AreSome NoRow levels_left some_rows
 unfolding some_rows
-some_form room =
+some_form levels_left =
     before_form follow
-    (other_form (λ r xs ns h. elsewhere (λ v ys k. k) h) (λ r xs ns h. elsewhere (λ v ys k. k) h) (λ x e. e) (row_form room))
-    (λ first. mapped_form (λ rest. first ∷ rest) (rows_form room))
+    (other_form (λ r xs ns h. elsewhere (λ v ys k. k) h) (λ r xs ns h. elsewhere (λ v ys k. k) h) (λ x e. e) (row_form levels_left))
+    (λ first. mapped_form (λ rest. first ∷ rest) (rows_form levels_left))
   where
     before : (xs rest : List TextToken) (ns : List (List ℕ)) → AreRows xs ns → Before NoRow rest → Before NoNumber (xs ++ rest)
     before xs [] ns no_row b = tt
@@ -309,8 +309,8 @@ rows_row xs ns h =
 
 -- ---- whole texts
 
-entries_form : (room : ℕ) → Form (λ r. AreEntries) Never room entries
-entries_form room = record { exact = entries_exact room; begins = λ r. record { ending = []; value = []; derives = no_entry } }
+entries_form : (levels_left : ℕ) → Form (λ r. AreEntries) Never levels_left entries
+entries_form levels_left = record { exact = entries_exact levels_left; begins = λ r. record { ending = []; value = []; derives = no_entry } }
 
 abbrev IsTablesText : Grammar TextToken TablesSyntax
 IsTablesText = IsHeaded (codes "tsltables") (codes "domain") AreEntries tables_made
@@ -327,11 +327,11 @@ is_tables r xs t h = tables_by xs t (parts_of r xs t h)
 tables_are : (r : ℕ) (xs : List TextToken) (t : TablesSyntax) → IsTables xs t → IsTablesText r xs t
 tables_are r xs t (tables a b c d n head one word number few entries) = of_parts _ r a b c d n head one word number few entries
 
-pub tables_exact : (room : ℕ) → Exact (λ r. IsTables) Never room tables_text
+pub tables_exact : (levels_left : ℕ) → Exact (λ r. IsTables) Never levels_left tables_text
 unfolding tables_text
-tables_exact room =
+tables_exact levels_left =
     exact_as is_tables tables_are (λ x e. e)
-    (headed_exact (has_word (codes "tsltables") refl) (has_word (codes "domain") refl) entries_form tables_made room)
+    (headed_exact (has_word (codes "tsltables") refl) (has_word (codes "domain") refl) entries_form tables_made levels_left)
 
 module _ where
   -- a text of inputs, from its end
@@ -359,8 +359,8 @@ module _ where
   abbrev InputsHead : Grammar TextToken InputsSyntax
   InputsHead = Then (IsOne (word_at (codes "tslinputs"))) (λ _. InputsOne)
 
-  columns_form : (room : ℕ) → Form (λ r. AreColumns) (NoWord (codes "input")) room columns
-  columns_form room = record { exact = columns_exact room; begins = λ r. record { ending = []; value = []; derives = no_column } }
+  columns_form : (levels_left : ℕ) → Form (λ r. AreColumns) (NoWord (codes "input")) levels_left columns
+  columns_form levels_left = record { exact = columns_exact levels_left; begins = λ r. record { ending = []; value = []; derives = no_column } }
 
   stem_follows : (ns : List TextToken) (r : ℕ) (xs : List TextToken) (t : InputsSyntax) → InputsStemWord ns r xs t →
       (rest : List TextToken) →
@@ -377,21 +377,21 @@ module _ where
         name_no_number h.first.0 (word_is_name (codes "cycle") h.first.0 word),
       )
 
-  some_rows_form : (room : ℕ) → Form (λ r. AreSome 0) Never room some_rows
-  some_rows_form room =
-      other_form (λ r xs ns h. elsewhere (λ v ys k. k) h) (λ r xs ns h. elsewhere (λ v ys k. k) h) (λ x e. absurd e) (some_form room)
+  some_rows_form : (levels_left : ℕ) → Form (λ r. AreSome 0) Never levels_left some_rows
+  some_rows_form levels_left =
+      other_form (λ r xs ns h. elsewhere (λ v ys k. k) h) (λ r xs ns h. elsewhere (λ v ys k. k) h) (λ x e. absurd e) (some_form levels_left)
 
-  input_head_exact : (room : ℕ) → Exact InputsHead Never room inputs_text
+  input_head_exact : (levels_left : ℕ) → Exact InputsHead Never levels_left inputs_text
   unfolding inputs_text
-  input_head_exact room =
-      (then_form (one_terminal (word_at (codes "tslinputs")) room (has_word (codes "tslinputs") refl)) (λ _.
-      then_form (one_terminal (numeral_at (codes "1")) room has_one) (λ _.
-      before_form (λ r ns xs t h rest b. stem_follows ns r xs t h rest b) (columns_form room) (λ ns.
-      then_form (one_terminal (word_at (codes "stem")) room (has_word (codes "stem") refl)) (λ _.
-      before_form (λ r stem xs t h rest b. cycle_follows ns stem r xs t h rest b) (rows_form room) (λ stem.
-      then_form (one_terminal (word_at (codes "cycle")) room (has_word (codes "cycle") refl)) (λ _.
-      before_form (λ r cycle xs v h rest b. nothing_follows Never (λ _. inputs_made ns stem cycle) r xs v h rest b) (some_rows_form room)
-      (λ cycle. mapped_form (λ _. inputs_made ns stem cycle) (at_the_end room))))))))).exact
+  input_head_exact levels_left =
+      (then_form (one_terminal (word_at (codes "tslinputs")) levels_left (has_word (codes "tslinputs") refl)) (λ _.
+      then_form (one_terminal (numeral_at (codes "1")) levels_left has_one) (λ _.
+      before_form (λ r ns xs t h rest b. stem_follows ns r xs t h rest b) (columns_form levels_left) (λ ns.
+      then_form (one_terminal (word_at (codes "stem")) levels_left (has_word (codes "stem") refl)) (λ _.
+      before_form (λ r stem xs t h rest b. cycle_follows ns stem r xs t h rest b) (rows_form levels_left) (λ stem.
+      then_form (one_terminal (word_at (codes "cycle")) levels_left (has_word (codes "cycle") refl)) (λ _.
+      before_form (λ r cycle xs v h rest b. nothing_follows Never (λ _. inputs_made ns stem cycle) r xs v h rest b) (some_rows_form levels_left)
+      (λ cycle. mapped_form (λ _. inputs_made ns stem cycle) (at_the_end levels_left))))))))).exact
 
   is_inputs : (r : ℕ) (xs : List TextToken) (t : InputsSyntax) → InputsHead r xs t → IsInputs xs t
   is_inputs r xs t a =
@@ -422,5 +422,5 @@ module _ where
         second = (tt, refl, refl);
       }))))))
 
-  pub inputs_exact : (room : ℕ) → Exact (λ r. IsInputs) Never room inputs_text
-  inputs_exact room = exact_as is_inputs inputs_are (λ x e. e) (input_head_exact room)
+  pub inputs_exact : (levels_left : ℕ) → Exact (λ r. IsInputs) Never levels_left inputs_text
+  inputs_exact levels_left = exact_as is_inputs inputs_are (λ x e. e) (input_head_exact levels_left)

@@ -97,18 +97,18 @@ abbrev IsRest : Option WordOperation → Grammar TextToken WordOperation
 IsRest (Some o) = λ r xs v. (xs ≡ []) × (v ≡ o)
 IsRest None = IsMapped Const (λ r. IsNumber)
 
-rest_form : (word : Option WordOperation) (room : ℕ) → Form (IsRest word) Any room (rest_of_operation word)
-rest_form (Some o) room = record {
+rest_form : (word : Option WordOperation) (levels_left : ℕ) → Form (IsRest word) Any levels_left (rest_of_operation word)
+rest_form (Some o) levels_left = record {
   exact = record {
     run = λ xs. record { front = []; rest = xs; outcome = gives o; split = refl; reads = λ other same. refl; says = (refl, refl) };
-    again = λ r xs v h rest b. again r xs v h rest;
+    complete = λ r xs v h rest b. complete r xs v h rest;
   };
   begins = λ r. record { ending = []; value = o; derives = (refl, refl) };
 } where
-  again : (r : ℕ) (xs : List TextToken) (v : WordOperation) → (xs ≡ []) × (v ≡ o) → (rest : List TextToken) →
-      Agrees room r v rest (rest_of_operation (Some o) (xs ++ rest))
-  again r xs v h rest = rw h.0 (sym h.1, refl)
-rest_form None room = mapped_form Const (number_form room)
+  complete : (r : ℕ) (xs : List TextToken) (v : WordOperation) → (xs ≡ []) × (v ≡ o) → (rest : List TextToken) →
+      Agrees levels_left r v rest (rest_of_operation (Some o) (xs ++ rest))
+  complete r xs v h rest = rw h.0 (sym h.1, refl)
+rest_form None levels_left = mapped_form Const (number_form levels_left)
 
 is_operation : (r : ℕ) (xs : List TextToken) (o : WordOperation) → Then (IsOne operation_word_at) IsRest r xs o → IsOperation xs o
 is_operation r xs o h = by h.value h.first.2 h.second where
@@ -123,11 +123,11 @@ operations_are : (r : ℕ) (xs : List TextToken) (o : WordOperation) → IsOpera
 operations_are r xs o (by_word x p word) = one_then x (word_taken x p word) (refl, refl)
 operations_are r xs o (constant x y n word number) = one_then x (constant_taken x word) (n, (y, refl, number), refl)
 
-operation_form : (room : ℕ) → Form (λ r. IsOperation) Any room operation
+operation_form : (levels_left : ℕ) → Form (λ r. IsOperation) Any levels_left operation
 unfolding operation
-operation_form room =
+operation_form levels_left =
     other_form is_operation operations_are (λ x e. e)
-    (then_form (one_terminal operation_word_at room has_operation_word) (λ word. rest_form word room))
+    (then_form (one_terminal operation_word_at levels_left has_operation_word) (λ word. rest_form word levels_left))
 
 -- ---- entries
 
@@ -140,22 +140,22 @@ IsForm Function = Then (IsOne name_at) (λ name. IsMapped (λ o. word_entry_made
 IsForm Predicate = Then (IsOne symbol_at) (λ name. IsMapped (λ t. word_entry_made name (Test t)) (λ r. IsOne test_at))
 IsForm Signal = Then (IsOne name_at) (λ name. IsMapped (λ n. word_entry_made name (Value n)) (λ r. IsNumber))
 
-form : (kind : NameKind) (room : ℕ) → Form (IsForm kind) Any room (word_entry_of_kind kind)
+form : (kind : NameKind) (levels_left : ℕ) → Form (IsForm kind) Any levels_left (word_entry_of_kind kind)
 unfolding word_entry_of_kind
-form Function room =
-    then_form (one_terminal name_at room has_name) (λ name. mapped_form (λ o. word_entry_made name (Operation o)) (operation_form room))
-form Predicate room =
-    then_form (one_terminal symbol_at room has_symbol)
-    (λ name. mapped_form (λ t. word_entry_made name (Test t)) (one_terminal test_at room has_test))
-form Signal room =
-    then_form (one_terminal name_at room has_name) (λ name. mapped_form (λ n. word_entry_made name (Value n)) (number_form room))
+form Function levels_left =
+    then_form (one_terminal name_at levels_left has_name) (λ name. mapped_form (λ o. word_entry_made name (Operation o)) (operation_form levels_left))
+form Predicate levels_left =
+    then_form (one_terminal symbol_at levels_left has_symbol)
+    (λ name. mapped_form (λ t. word_entry_made name (Test t)) (one_terminal test_at levels_left has_test))
+form Signal levels_left =
+    then_form (one_terminal name_at levels_left has_name) (λ name. mapped_form (λ n. word_entry_made name (Value n)) (number_form levels_left))
 
 lift_form : (kind : NameKind) (r : ℕ) (xs : List TextToken) (e : WordEntry) → IsForm kind r xs e → IsForm kind (suc (suc r)) xs e
 lift_form Function r xs e h = elsewhere (λ v ys k. k) h
 lift_form Predicate r xs e h = elsewhere (λ v ys k. k) h
 lift_form Signal r xs e h = elsewhere (λ v ys k. k) h
 
-entry_members : (room : ℕ) → Member (IsByKind IsForm) Any Never room word_entry_member (λ x. is_some (kind_at x))
+entry_members : (levels_left : ℕ) → Member (IsByKind IsForm) Any Never levels_left word_entry_member (λ x. is_some (kind_at x))
     (λ xs. and_then (taking kind_at xs) word_entry_of_kind)
 entry_members = by_kind word_entry_of_kind IsForm form lift_form (λ x e. tt)
 
@@ -192,17 +192,17 @@ all_entries : (r : ℕ) (xs : List TextToken) (es : List WordEntry) → AreWordE
 all_entries r xs es no_word_entry = none
 all_entries r xs es (more_word_entries {xs = ys} {ys = zs} {e = e} {es = ds} h rest) = some (is_entry r ys e h) (all_entries r zs ds rest)
 
-entries_exact : (room : ℕ) → Exact (λ r. AreWordEntries) Never room word_entries
+entries_exact : (levels_left : ℕ) → Exact (λ r. AreWordEntries) Never levels_left word_entries
 unfolding word_entries
-entries_exact room = exact_as are_entries all_entries (λ x e. e) (members_exact (entry_members room))
+entries_exact levels_left = exact_as are_entries all_entries (λ x e. e) (members_exact (entry_members levels_left))
 
 pub word_entries_shrink : Shrinks (push word_entry_member)
 word_entries_shrink = step_shrinks (stepping (entry_members 0))
 
 -- ---- whole texts
 
-entries_form : (room : ℕ) → Form (λ r. AreWordEntries) Never room word_entries
-entries_form room = record { exact = entries_exact room; begins = λ r. record { ending = []; value = []; derives = no_word_entry } }
+entries_form : (levels_left : ℕ) → Form (λ r. AreWordEntries) Never levels_left word_entries
+entries_form levels_left = record { exact = entries_exact levels_left; begins = λ r. record { ending = []; value = []; derives = no_word_entry } }
 
 abbrev IsWordsText : Grammar TextToken WordsSyntax
 IsWordsText = IsHeaded (codes "tslwords") (codes "bits") AreWordEntries words_made
@@ -219,8 +219,8 @@ is_words r xs t h = words_by xs t (parts_of r xs t h)
 words_are : (r : ℕ) (xs : List TextToken) (t : WordsSyntax) → IsWords xs t → IsWordsText r xs t
 words_are r xs t (words a b c d n head one word number few entries) = of_parts _ r a b c d n head one word number few entries
 
-pub words_exact : (room : ℕ) → Exact (λ r. IsWords) Never room words_text
+pub words_exact : (levels_left : ℕ) → Exact (λ r. IsWords) Never levels_left words_text
 unfolding words_text
-words_exact room =
+words_exact levels_left =
     exact_as is_words words_are (λ x e. e)
-    (headed_exact (has_word (codes "tslwords") refl) (has_word (codes "bits") refl) entries_form words_made room)
+    (headed_exact (has_word (codes "tslwords") refl) (has_word (codes "bits") refl) entries_form words_made levels_left)

@@ -36,7 +36,7 @@ ghost use Rattle.table_syntax.specs.View.{
 ghost use Rattle.table_syntax.specs.internal.ReadFaults.{IsReadFaultOf};
 
 use crate::text_tokens::{
-    Left, TextToken, is_name_token, is_numeral, is_symbol, is_word, number_at,
+    Rest, TextToken, is_name_token, is_numeral, is_symbol, is_word, number_at,
 };
 use sequence::NoMemory;
 use std::alloc::{AllocFailed, Global};
@@ -277,10 +277,10 @@ fn numbers<'a, 'b>(
     ensures shorter { IfOk result (λ read. length read.1.now ≤ length xs.now) }
 {
     let mut numbers = Vec::new(alloc);
-    let mut left = Left { terminals: xs };
+    let mut left = Rest { terminals: xs };
     while let Some((number, rest)) = first_number(left.terminals) {
         numbers.push(number)?;
-        left = Left { terminals: rest };
+        left = Rest { terminals: rest };
     }
     Ok((numbers, left.terminals))
 }
@@ -350,11 +350,11 @@ fn entries<'a, 'b>(alloc: Global, xs: &'b [TextToken<'a>]) -> Answer<'a, 'b, Vec
     ensures fault { IfErr result (IsReadFaultOf (entries (text_tokens_view xs.now))) }
 {
     let mut entries = Vec::new(alloc);
-    let mut left = Left { terminals: xs };
+    let mut left = Rest { terminals: xs };
     while let Some((kind, rest)) = first_kind(left.terminals) {
         let (entry, rest) = entry_of_kind(alloc, kind, rest)?;
         entries.push(entry)?;
-        left = Left { terminals: rest };
+        left = Rest { terminals: rest };
     }
     Ok((entries, left.terminals))
 }
@@ -408,11 +408,11 @@ fn columns<'a, 'b>(alloc: Global, xs: &'b [TextToken<'a>]) -> Answer<'a, 'b, Vec
     ensures fault { IfErr result (IsReadFaultOf (columns (text_tokens_view xs.now))) }
 {
     let mut columns = Vec::new(alloc);
-    let mut left = Left { terminals: xs };
+    let mut left = Rest { terminals: xs };
     while let Some(rest) = after_word(b"input", left.terminals) {
         let (column, rest) = name(rest)?;
         columns.push(column)?;
-        left = Left { terminals: rest };
+        left = Rest { terminals: rest };
     }
     Ok((columns, left.terminals))
 }
@@ -426,11 +426,11 @@ fn rows<'a, 'b>(
     ensures { IfOk result (λ read. rows (text_tokens_view xs.now) ≡ Ok (numbers_view read.0.items, text_tokens_view read.1.now)) }
 {
     let mut rows = Vec::new(alloc);
-    let mut left = Left { terminals: xs };
+    let mut left = Rest { terminals: xs };
     while let Some(rest) = after_word(b"row", left.terminals) {
         let (row, rest) = numbers(alloc, rest)?;
         rows.push(row)?;
-        left = Left { terminals: rest };
+        left = Rest { terminals: rest };
     }
     Ok((rows, left.terminals))
 }

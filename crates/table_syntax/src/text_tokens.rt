@@ -20,7 +20,7 @@ pub struct TextToken<'a> {
 
 /// The terminals that a loop has left.
 #[derive(Clone, Copy)]
-pub(crate) struct Left<'a, 'b> {
+pub(crate) struct Rest<'a, 'b> {
     pub(crate) terminals: &'b [TextToken<'a>],
 }
 

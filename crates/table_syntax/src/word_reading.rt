@@ -11,7 +11,7 @@ ghost use Rattle.table_syntax.specs.internal.ReadFaults.{IsReadFaultOf};
 use crate::reading::{
     Answer, ReadFault, at_end, first_kind, name, number, numeral, positive, symbol, word,
 };
-use crate::text_tokens::{Left, TextToken, is_word};
+use crate::text_tokens::{Rest, TextToken, is_word};
 use crate::words::{Given, Operation, Test, WordEntry, WordsText};
 use std::alloc::Global;
 use tsl_terms::NameKind;
@@ -208,11 +208,11 @@ fn word_entries<'a, 'b>(
     ensures fault { IfErr result (IsReadFaultOf (word_entries (text_tokens_view xs.now))) }
 {
     let mut entries = Vec::new(alloc);
-    let mut left = Left { terminals: xs };
+    let mut left = Rest { terminals: xs };
     while let Some((kind, rest)) = first_kind(left.terminals) {
         let (entry, rest) = word_entry_of_kind(kind, rest)?;
         entries.push(entry)?;
-        left = Left { terminals: rest };
+        left = Rest { terminals: rest };
     }
     Ok((entries, left.terminals))
 }

@@ -87,8 +87,8 @@ IsNumber r xs k = xs ≡ number k ∷ []
 abbrev Closes : Token → Type 0
 Closes x = is_closer x ≡ true
 
-number_member : (room : ℕ) → Member IsNumber Any Closes room a_number is_number (λ xs. found_or_wrong (a_number xs) xs)
-number_member room = record {
+number_member : (levels_left : ℕ) → Member IsNumber Any Closes levels_left a_number is_number (λ xs. found_or_wrong (a_number xs) xs)
+number_member levels_left = record {
   at_end = refl;
   none = none_here;
   some = some_here;
@@ -112,7 +112,7 @@ number_member room = record {
   stops closer e = refl
   stops _ e = cc
 
-  turn : (x : Token) → is_number x ≡ true → Turn IsNumber Any room (λ xs. found_or_wrong (a_number xs) xs) x
+  turn : (x : Token) → is_number x ≡ true → Turn IsNumber Any levels_left (λ xs. found_or_wrong (a_number xs) xs) x
   turn (number k) e = turn_alone k (λ rest. refl) (λ r. refl) (λ r ys j h. (cc, cc))
   turn _ e = cc
 
@@ -130,8 +130,8 @@ InBrackets = IsAfter is_opener (IsClosed is_closer (λ r. AreNumbers))
 in_brackets : (xs : List Token) (ks : List ℕ) → AreNumbers xs ks → IsClosed is_closer (λ (r : ℕ). AreNumbers) 0 (xs ++ closer ∷ []) ks
 in_brackets xs ks h = record { value = ks; front = xs; tail = closer ∷ []; split = refl; first = h; second = (closer, refl, refl, refl) }
 
-bracketed_exact : (room : ℕ) → Exact InBrackets Any room bracketed
-bracketed_exact room =
+bracketed_exact : (levels_left : ℕ) → Exact InBrackets Any levels_left bracketed
+bracketed_exact levels_left =
     after_exact is_opener opener refl
     (record {
       ending = closer ∷ [];
@@ -140,7 +140,7 @@ bracketed_exact room =
           record { value = []; front = []; tail = closer ∷ []; split = refl; first = no_number; second = (closer, refl, refl, refl) };
     })
     (closed_exact is_closer closer refl (λ x e. e) (λ r xs ks h. h)
-    (exact_as are_numbers all_numbers (λ x h. h) (members_exact (number_member room))))
+    (exact_as are_numbers all_numbers (λ x h. h) (members_exact (number_member levels_left))))
 
 -- how an entry goes on after its first token
 abbrev EntryCase : Grammar Token Entry
@@ -170,9 +170,9 @@ case_entry r (name n ∷ x ∷ ys) v h =
     rw (opener_is x h.1.0, split, h.2) (entry n derived)
 case_entry r _ v h = absurd h
 
-entry_exact : (room : ℕ) → Exact (λ r. IsEntry) Any room read_entry
-entry_exact room = exact_as case_entry entry_case (λ x h. h) (by_first (end_wrong refl some_entry (λ r v h. h)) turn) where
-  some_entry : Begins (EntryCase room) []
+entry_exact : (levels_left : ℕ) → Exact (λ r. IsEntry) Any levels_left read_entry
+entry_exact levels_left = exact_as case_entry entry_case (λ x h. h) (by_first (end_wrong refl some_entry (λ r v h. h)) turn) where
+  some_entry : Begins (EntryCase levels_left) []
   some_entry = record {
     ending = name [] ∷ opener ∷ closer ∷ [];
     value = ([], []);
@@ -186,9 +186,9 @@ entry_exact room = exact_as case_entry entry_case (λ x h. h) (by_first (end_wro
     );
   }
 
-  turn : (x : Token) → Turn EntryCase Any room read_entry x
+  turn : (x : Token) → Turn EntryCase Any levels_left read_entry x
   turn (name n) = turn_takes (λ ks. (n, ks)) bracketed (λ rest. refl) (λ y h. h) (λ r ys ks h. (ks, h, refl)) (λ r ys v h. h)
-      (bracketed_exact room)
+      (bracketed_exact levels_left)
   turn _ = turn_wrong (λ rest. refl) some_entry (λ r ys v h. h)
 
 -- ---- what follows

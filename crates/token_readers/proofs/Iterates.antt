@@ -45,13 +45,13 @@ use Rattle.token_readers.proofs.Then.{IsThen, Fits, run_then, agrees_then}
 
 module _ {T V : Type 0} where
   -- what a reader that gives a value has taken
-  pub taken : {Is : Grammar T V} {room : ℕ} {reader : Reader T V} (xs : List T) → Run Is room reader xs → (v : V) (rest : List T) →
+  pub taken : {Is : Grammar T V} {levels_left : ℕ} {reader : Reader T V} (xs : List T) → Run Is levels_left reader xs → (v : V) (rest : List T) →
       reader xs ≡ Ok (v, rest) →
-      (front : List T) × (xs ≡ front ++ rest) × Is room front v
-  taken {Is = Is} {room = room} {reader = reader} xs k v rest h =
+      (front : List T) × (xs ≡ front ++ rest) × Is levels_left front v
+  taken {Is = Is} {levels_left = levels_left} {reader = reader} xs k v rest h =
       by k.outcome (ap reader k.split ∙ k.reads k.rest (same_first k.rest)) k.says where
-        by : (outcome : Ending V) → reader xs ≡ ends_with outcome k.rest → Says Is room outcome k.front k.rest →
-            (front : List T) × (xs ≡ front ++ rest) × Is room front v
+        by : (outcome : Ending V) → reader xs ≡ ends_with outcome k.rest → Says Is levels_left outcome k.front k.rest →
+            (front : List T) × (xs ≡ front ++ rest) × Is levels_left front v
         by (gives u) e says =
             let same = same_read (reader xs) u v k.rest rest e h in
             (k.front, k.split ∙ ap (λ ys. k.front ++ ys) same.1, rw (← same.0) says)
@@ -141,7 +141,7 @@ module _ {T S : Type 0} where
   joined IsStep s r xs t h = rw h.split (more h.first h.second)
 
   -- A step is decided by the first terminal, and read exactly.
-  pub record Stepping (IsStep : S → Grammar T S) (steps : S → T → Type 0) (ends : T → Type 0) (room : ℕ) (step : S → List T →
+  pub record Stepping (IsStep : S → Grammar T S) (steps : S → T → Type 0) (ends : T → Type 0) (levels_left : ℕ) (step : S → List T →
       Option (Answer T S)) (starts : S → T → Bool) (reader : S → Reader T S) : Type 0 where
     pub at_end : (s : S) → step s [] ≡ None
     pub none : (s : S) (x : T) (rest : List T) → starts s x ≡ false → step s (x ∷ rest) ≡ None
@@ -151,11 +151,11 @@ module _ {T S : Type 0} where
     pub follows : (s : S) (r : ℕ) (xs : List T) (t : S) → IsStep s r xs t → (x : T) → starts t x ≡ true → steps s x
     pub stops : (s : S) (x : T) → ends x → starts s x ≡ false
     pub weaker : (s : S) (x : T) → ends x → steps s x
-    pub turn : (s : S) (x : T) → starts s x ≡ true → Turn (IsStep s) (steps s) room (reader s) x
+    pub turn : (s : S) (x : T) → starts s x ≡ true → Turn (IsStep s) (steps s) levels_left (reader s) x
 
-  module _ {IsStep : S → Grammar T S} {steps : S → T → Type 0} {ends : T → Type 0} {room : ℕ} {step : S → List T →
+  module _ {IsStep : S → Grammar T S} {steps : S → T → Type 0} {ends : T → Type 0} {levels_left : ℕ} {step : S → List T →
       Option (Answer T S)} {starts : S → T → Bool} {reader : S → Reader T S} where
-    pub step_shrinks : Stepping IsStep steps ends room step starts reader → Shrinks step
+    pub step_shrinks : Stepping IsStep steps ends levels_left step starts reader → Shrinks step
     step_shrinks k s [] t rest h = let none : step s [] ≡ None = k.at_end s in cc
     step_shrinks k s (x ∷ xs) t rest h = by (starts s x) refl where
       by : (b : Bool) → starts s x ≡ b → length rest < suc (length xs)
@@ -164,34 +164,34 @@ module _ {T S : Type 0} where
           let some : step s (x ∷ xs) ≡ Some (reader s (x ∷ xs)) = k.some s x xs e in
           let read : reader s (x ∷ xs) ≡ Ok (t, rest) = cc in
           let front = taken (x ∷ xs) ((k.turn s x e).run xs) t rest read in
-          let first = k.begins s room front.0 t front.2 in
+          let first = k.begins s levels_left front.0 t front.2 in
           let whole : suc (length xs) ≡ length (front.0 ++ rest) = ap length front.1 in
           let taken_some : length front.0 ≡ suc (length first.1) = ap length first.2 in
           omega (arith, whole, taken_some, length-append front.0 rest)
 
     -- nothing is left to do before these terminals
-    ended : Stepping IsStep steps ends room step starts reader → (s : S) (xs : List T) → step s xs ≡ None → iterate step s xs ≡ Ok (s, xs)
+    ended : Stepping IsStep steps ends levels_left step starts reader → (s : S) (xs : List T) → step s xs ≡ None → iterate step s xs ≡ Ok (s, xs)
     ended k s xs h = no_step (step_shrinks k) s xs h
 
     -- a step and the further ones are one reader after another
-    stepped : Stepping IsStep steps ends room step starts reader → (s : S) (x : T) (rest : List T) → starts s x ≡ true →
+    stepped : Stepping IsStep steps ends levels_left step starts reader → (s : S) (x : T) (rest : List T) → starts s x ≡ true →
         iterate step s (x ∷ rest) ≡ and_then (reader s (x ∷ rest)) (iterate step)
     stepped k s x rest e =
         one_step step (step_shrinks k) s (x ∷ rest) ∙ ap (λ found. go_on s (x ∷ rest) found (iterate step)) (k.some s x rest e)
         ∙ as_then (iterate step) s (x ∷ rest) (reader s (x ∷ rest))
 
-    fits : Stepping IsStep steps ends room step starts reader → (s : S) → Fits (IsStep s) (AreSteps IsStep)
+    fits : Stepping IsStep steps ends levels_left step starts reader → (s : S) → Fits (IsStep s) (AreSteps IsStep)
     fits k s = record { lift = k.lift s; default = λ r t. record { ending = []; value = t; derives = stop } }
 
-    run_end : Stepping IsStep steps ends room step starts reader → (s : S) → Run (AreSteps IsStep s) room (iterate step s) []
+    run_end : Stepping IsStep steps ends levels_left step starts reader → (s : S) → Run (AreSteps IsStep s) levels_left (iterate step s) []
     run_end k s = record { front = []; rest = []; outcome = gives s; split = refl; reads = at_end; says = stop } where
       at_end : (other : List T) → SameFirst [] other → iterate step s other ≡ Ok (s, other)
       at_end other both_end = ended k s [] (k.at_end s)
 
     -- a run from this terminal on, by runs after the first step
-    run_first : Stepping IsStep steps ends room step starts reader → (s : S) (x : T) (rest : List T) →
-        ((t : S) (left : List T) → length left < suc (length rest) → Run (AreSteps IsStep t) room (iterate step t) left) →
-        Run (AreSteps IsStep s) room (iterate step s) (x ∷ rest)
+    run_first : Stepping IsStep steps ends levels_left step starts reader → (s : S) (x : T) (rest : List T) →
+        ((t : S) (left : List T) → length left < suc (length rest) → Run (AreSteps IsStep t) levels_left (iterate step t) left) →
+        Run (AreSteps IsStep s) levels_left (iterate step s) (x ∷ rest)
     run_first k s x rest further = by (starts s x) refl where
       stays : starts s x ≡ false → (other : List T) → SameFirst (x ∷ rest) other → iterate step s other ≡ Ok (s, other)
       stays e other (both_begin y ys zs) = ended k s (x ∷ zs) (k.none s x zs e)
@@ -200,21 +200,21 @@ module _ {T S : Type 0} where
           iterate step s other ≡ map_read (λ t. t) (and_then (reader s other) (iterate step))
       goes e other (both_begin y ys zs) = stepped k s x zs e ∙ sym (map_same (and_then (reader s (x ∷ zs)) (iterate step)))
 
-      by : (b : Bool) → starts s x ≡ b → Run (AreSteps IsStep s) room (iterate step s) (x ∷ rest)
+      by : (b : Bool) → starts s x ≡ b → Run (AreSteps IsStep s) levels_left (iterate step s) (x ∷ rest)
       by false e = record { front = []; rest = x ∷ rest; outcome = gives s; split = refl; reads = stays e; says = stop }
       by true e =
           run_after (λ t. t) [] (iterate step s) (goes e) (joined IsStep s)
-          (run_then (IsStep s) (AreSteps IsStep) (fits k s) room (reader s) (iterate step) (x ∷ rest) ((k.turn s x e).run rest) (λ t left h.
+          (run_then (IsStep s) (AreSteps IsStep) (fits k s) levels_left (reader s) (iterate step) (x ∷ rest) ((k.turn s x e).run rest) (λ t left h.
           further t left (step_shrinks k s (x ∷ rest) t left (k.some s x rest e ∙ ap Some h))))
 
-    run_most : Stepping IsStep steps ends room step starts reader → (most : ℕ) (s : S) (xs : List T) → length xs < most →
-        Run (AreSteps IsStep s) room (iterate step s) xs
+    run_most : Stepping IsStep steps ends levels_left step starts reader → (most : ℕ) (s : S) (xs : List T) → length xs < most →
+        Run (AreSteps IsStep s) levels_left (iterate step s) xs
     run_most k zero s xs few = absurd (omega (arith, few))
     run_most k (suc most) s [] few = run_end k s
     run_most k (suc most) s (x ∷ rest) few = run_first k s x rest (λ t left less. run_most k most t left (omega (arith, less, few)))
 
     -- what follows a step: further steps, or terminals after which there are none
-    before_steps : Stepping IsStep steps ends room step starts reader → (r : ℕ) (s t : S) (f : List T) → IsStep s r f t →
+    before_steps : Stepping IsStep steps ends levels_left step starts reader → (r : ℕ) (s t : S) (f : List T) → IsStep s r f t →
         (xs : List T) (u : S) → Steps IsStep r t xs u →
         (rest : List T) → Before ends rest → Before (steps s) (xs ++ rest)
     before_steps k r s t f h xs u stop rest b = before_map ends (steps s) (k.weaker s) rest b
@@ -222,12 +222,12 @@ module _ {T S : Type 0} where
         let first = k.begins t r g v i in
         rw first.2 (k.follows s r f t h first.0 first.3)
 
-    ends_here : Stepping IsStep steps ends room step starts reader → (s : S) (rest : List T) → Before ends rest →
+    ends_here : Stepping IsStep steps ends levels_left step starts reader → (s : S) (rest : List T) → Before ends rest →
         iterate step s rest ≡ Ok (s, rest)
     ends_here k s [] b = ended k s [] (k.at_end s)
     ends_here k s (x ∷ rest) b = ended k s (x ∷ rest) (k.none s x rest (k.stops s x b))
 
-    begun : Stepping IsStep steps ends room step starts reader → (s : S) (r : ℕ) (xs : List T) (t : S) → IsStep s r xs t → (ys : List T) →
+    begun : Stepping IsStep steps ends levels_left step starts reader → (s : S) (r : ℕ) (xs : List T) (t : S) → IsStep s r xs t → (ys : List T) →
         iterate step s (xs ++ ys) ≡ and_then (reader s (xs ++ ys)) (iterate step)
     begun k s r xs t h ys =
         let first = k.begins s r xs t h in
@@ -235,30 +235,30 @@ module _ {T S : Type 0} where
         stepped k s first.0 (first.1 ++ ys) first.3 in
         ap (λ zs. iterate step s (zs ++ ys)) first.2 ∙ read ∙ ap (λ zs. and_then (reader s (zs ++ ys)) (iterate step)) (sym first.2)
 
-    step_again : Stepping IsStep steps ends room step starts reader → (r : ℕ) (s : S) (xs : List T) (t : S) → IsStep s r xs t →
+    step_again : Stepping IsStep steps ends levels_left step starts reader → (r : ℕ) (s : S) (xs : List T) (t : S) → IsStep s r xs t →
         (rest : List T) → Before (steps s) rest →
-        Agrees room r t rest (reader s (xs ++ rest))
+        Agrees levels_left r t rest (reader s (xs ++ rest))
     step_again k r s xs t h rest b =
         let first = k.begins s r xs t h in
         let derived : IsStep s r (first.0 ∷ first.1) t = rw first.2 at h in
-        let agrees : Agrees room r t rest (reader s (first.0 ∷ (first.1 ++ rest))) =
-        (k.turn s first.0 first.3).again r first.1 t derived rest b in
+        let agrees : Agrees levels_left r t rest (reader s (first.0 ∷ (first.1 ++ rest))) =
+        (k.turn s first.0 first.3).complete r first.1 t derived rest b in
         rw first.2 agrees
 
-    steps_again : Stepping IsStep steps ends room step starts reader → (r : ℕ) (s : S) (xs : List T) (t : S) → Steps IsStep r s xs t →
+    steps_again : Stepping IsStep steps ends levels_left step starts reader → (r : ℕ) (s : S) (xs : List T) (t : S) → Steps IsStep r s xs t →
         (rest : List T) → Before ends rest →
-        Agrees room r t rest (iterate step s (xs ++ rest))
+        Agrees levels_left r t rest (iterate step s (xs ++ rest))
     steps_again k r s xs t stop rest b = rw (ends_here k s rest b) (refl, refl)
     steps_again k r s xs u (more {t = t} {f = f} {g = g} h m) rest b =
-        let further : Agrees room r u rest (iterate step t (g ++ rest)) = steps_again k r t g u m rest b in
-        let whole : Agrees room r u rest (and_then (reader s (f ++ (g ++ rest))) (iterate step)) =
-        agrees_then room r t u (g ++ rest) rest (reader s (f ++ (g ++ rest))) (iterate step)
+        let further : Agrees levels_left r u rest (iterate step t (g ++ rest)) = steps_again k r t g u m rest b in
+        let whole : Agrees levels_left r u rest (and_then (reader s (f ++ (g ++ rest))) (iterate step)) =
+        agrees_then levels_left r t u (g ++ rest) rest (reader s (f ++ (g ++ rest))) (iterate step)
         (step_again k r s f t h (g ++ rest) (before_steps k r s t f h g u m rest b)) further in
         rw (append_assoc, begun k s r f t h (g ++ rest)) whole
 
     -- as many steps as there are
-    pub iterate_exact : Stepping IsStep steps ends room step starts reader → (s : S) → Exact (AreSteps IsStep s) ends room (iterate step s)
+    pub iterate_exact : Stepping IsStep steps ends levels_left step starts reader → (s : S) → Exact (AreSteps IsStep s) ends levels_left (iterate step s)
     iterate_exact k s = record {
       run = λ xs. run_most k (suc (length xs)) s xs (omega arith);
-      again = λ r xs t h rest b. steps_again k r s xs t h rest b;
+      complete = λ r xs t h rest b. steps_again k r s xs t h rest b;
     }

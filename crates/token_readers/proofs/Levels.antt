@@ -5,12 +5,12 @@ use Rattle.token_readers.specs.Readers.{form, deep, Answer, Reader, map_read, be
 use Rattle.token_readers.specs.Exact.{Grammar, Before, Ending, gives, wrong, too_deep, Begins, Says, Run, Agrees, Exact}
 use Rattle.token_readers.proofs.Terminals.{Turn, turn_deep, turn_takes, turn_gives, by_first, end_gives}
 
--- there is a level below exactly where there is room for it, and then this holds of it
+-- there is a level below exactly where one is left, and then this holds of it
 abbrev pub Below : {L : Type 0} → (ℕ → L → Type 0) → ℕ → Option L → Type 0
 Below Holds zero None = Unit {0}
 Below Holds zero (Some l) = ⊥
-Below Holds (suc room) None = ⊥
-Below Holds (suc room) (Some l) = Holds room l
+Below Holds (suc levels_left) None = ⊥
+Below Holds (suc levels_left) (Some l) = Holds levels_left l
 
 -- what derives one level further down
 abbrev pub Up : {T V : Type 0} → Grammar T V → Grammar T V
@@ -23,53 +23,53 @@ module _ {T V : Type 0} where
   lift_up Is lift zero xs v h = absurd h
   lift_up Is lift (suc r) xs v h = lift r xs v h
 
-  says_up : (Is : Grammar T V) (room : ℕ) (outcome : Ending V) (front rest : List T) → Says Is room outcome front rest →
-      Says (Up Is) (suc room) outcome front rest
-  says_up Is room (gives v) front rest h = h
-  says_up Is room wrong front rest h = record { ending = h.ending; value = h.value; derives = h.derives }
-  says_up Is room too_deep front [] h = h
-  says_up Is room too_deep front (x ∷ rest) h = (
+  says_up : (Is : Grammar T V) (levels_left : ℕ) (outcome : Ending V) (front rest : List T) → Says Is levels_left outcome front rest →
+      Says (Up Is) (suc levels_left) outcome front rest
+  says_up Is levels_left (gives v) front rest h = h
+  says_up Is levels_left wrong front rest h = record { ending = h.ending; value = h.value; derives = h.derives }
+  says_up Is levels_left too_deep front [] h = h
+  says_up Is levels_left too_deep front (x ∷ rest) h = (
     record { ending = h.0.ending; value = h.0.value; derives = h.0.derives },
     record { ending = h.1.ending; value = h.1.value; derives = h.1.derives },
   )
 
-  agrees_up : (room r : ℕ) (v : V) (rest : List T) (answer : Answer T V) → Agrees room r v rest answer →
-      Agrees (suc room) (suc r) v rest answer
-  agrees_up room r v rest (Ok (w, left)) h = h
-  agrees_up room r v rest (Err (form left)) h = h
-  agrees_up room r v rest (Err (deep left)) h = omega (arith, h)
+  agrees_up : (levels_left r : ℕ) (v : V) (rest : List T) (answer : Answer T V) → Agrees levels_left r v rest answer →
+      Agrees (suc levels_left) (suc r) v rest answer
+  agrees_up levels_left r v rest (Ok (w, left)) h = h
+  agrees_up levels_left r v rest (Err (form left)) h = h
+  agrees_up levels_left r v rest (Err (deep left)) h = omega (arith, h)
 
-  pub exact_up : {Is : Grammar T V} {ends : T → Type 0} {room : ℕ} {reader : Reader T V} → Exact Is ends room reader →
-      Exact (Up Is) ends (suc room) reader
-  exact_up {Is = Is} {ends = ends} {room = room} {reader = reader} k = record { run = λ xs. run xs (k.run xs); again = again } where
-    run : (xs : List T) → Run Is room reader xs → Run (Up Is) (suc room) reader xs
+  pub exact_up : {Is : Grammar T V} {ends : T → Type 0} {levels_left : ℕ} {reader : Reader T V} → Exact Is ends levels_left reader →
+      Exact (Up Is) ends (suc levels_left) reader
+  exact_up {Is = Is} {ends = ends} {levels_left = levels_left} {reader = reader} k = record { run = λ xs. run xs (k.run xs); complete = complete } where
+    run : (xs : List T) → Run Is levels_left reader xs → Run (Up Is) (suc levels_left) reader xs
     run xs h = record {
       front = h.front;
       rest = h.rest;
       outcome = h.outcome;
       split = h.split;
       reads = h.reads;
-      says = says_up Is room h.outcome h.front h.rest h.says;
+      says = says_up Is levels_left h.outcome h.front h.rest h.says;
     }
 
-    again : (r : ℕ) (xs : List T) (v : V) → Up Is r xs v → (rest : List T) → Before ends rest →
-        Agrees (suc room) r v rest (reader (xs ++ rest))
-    again zero xs v h rest b = absurd h
-    again (suc r) xs v h rest b = agrees_up room r v rest (reader (xs ++ rest)) (k.again r xs v h rest b)
+    complete : (r : ℕ) (xs : List T) (v : V) → Up Is r xs v → (rest : List T) → Before ends rest →
+        Agrees (suc levels_left) r v rest (reader (xs ++ rest))
+    complete zero xs v h rest b = absurd h
+    complete (suc r) xs v h rest b = agrees_up levels_left r v rest (reader (xs ++ rest)) (k.complete r xs v h rest b)
 
 module _ {L T U V : Type 0} where
   -- The terminal opens a form of the level below. Where there is none, it is a level too many.
   pub turn_below : {Low : Grammar T U} {Is : Grammar T V} {lows ends : T → Type 0} {Holds : ℕ → L →
-      Type 0} {room : ℕ} {reader : Reader T V} {x : T} (make : U → V)
-      (low : Option L) (pick : L → Reader T U) → ((k : ℕ) (l : L) → Holds k l → Exact Low lows k (pick l)) → Below Holds room low →
+      Type 0} {levels_left : ℕ} {reader : Reader T V} {x : T} (make : U → V)
+      (low : Option L) (pick : L → Reader T U) → ((k : ℕ) (l : L) → Holds k l → Exact Low lows k (pick l)) → Below Holds levels_left low →
       ((rest : List T) → reader (x ∷ rest) ≡ map_read make (below low pick (x ∷ rest))) → ((y : T) → ends y → lows y) →
-      Begins (Is room) [] → Begins (Low (suc room)) [] →
+      Begins (Is levels_left) [] → Begins (Low (suc levels_left)) [] →
       ((r : ℕ) (ys : List T) (u : U) → Low r ys u → Is (suc r) (x ∷ ys) (make u)) →
       ((r : ℕ) (ys : List T) (v : V) → Is r (x ∷ ys) v → (u : U) × Up Low r ys u × (v ≡ make u)) →
-      Turn Is ends room reader x
-  turn_below {Low = Low} {Is = Is} {lows = lows} {ends = ends} {Holds = Holds} {room = room} {reader = reader} {x =
+      Turn Is ends levels_left reader x
+  turn_below {Low = Low} {Is = Is} {lows = lows} {ends = ends} {Holds = Holds} {levels_left = levels_left} {reader = reader} {x =
       x} make low pick of h e weaker some some_low to from =
-      by room low h e some some_low where
+      by levels_left low h e some some_low where
         up : (r : ℕ) (ys : List T) (u : U) → Up Low r ys u → Is r (x ∷ ys) (make u)
         up zero ys u k = absurd k
         up (suc r) ys u k = to r ys u k
@@ -78,9 +78,9 @@ module _ {L T U V : Type 0} where
         more zero ys v k = absurd ((from zero ys v k).1)
         more (suc r) ys v k = omega arith
 
-        by : (room : ℕ) (low : Option L) → Below Holds room low →
+        by : (levels_left : ℕ) (low : Option L) → Below Holds levels_left low →
             ((rest : List T) → reader (x ∷ rest) ≡ map_read make (below low pick (x ∷ rest))) →
-            Begins (Is room) [] → Begins (Low (suc room)) [] → Turn Is ends room reader x
+            Begins (Is levels_left) [] → Begins (Low (suc levels_left)) [] → Turn Is ends levels_left reader x
         by zero None h e some some_low =
             turn_deep e some (record {
               ending = some_low.ending;
@@ -106,19 +106,19 @@ module _ {T V : Type 0} where
 
 module _ {L T V : Type 0} where
   pub tail_exact : (is : T → Bool) (make : V → V) {Low : Grammar T V} {lows ends : T → Type 0} {Holds : ℕ → L →
-      Type 0} {room : ℕ} {reader : Reader T V} (v : V) (low : Option L)
-      (pick : L → Reader T V) → ((k : ℕ) (l : L) → Holds k l → Exact Low lows k (pick l)) → Below Holds room low → reader [] ≡ Ok (v, []) →
+      Type 0} {levels_left : ℕ} {reader : Reader T V} (v : V) (low : Option L)
+      (pick : L → Reader T V) → ((k : ℕ) (l : L) → Holds k l → Exact Low lows k (pick l)) → Below Holds levels_left low → reader [] ≡ Ok (v, []) →
       ((x : T) (rest : List T) → is x ≡ true → reader (x ∷ rest) ≡ map_read make (below low pick (x ∷ rest))) →
       ((x : T) (rest : List T) → is x ≡ false → reader (x ∷ rest) ≡ Ok (v, x ∷ rest)) → ((x : T) → ends x → is x ≡ false) →
       ((x : T) → ends x → lows x) →
-      Begins (Low (suc room)) [] → Exact (IsTail is make Low v) ends room reader
-  tail_exact is make {Low = Low} {ends = ends} {Holds = Holds} {room = room} {reader =
+      Begins (Low (suc levels_left)) [] → Exact (IsTail is make Low v) ends levels_left reader
+  tail_exact is make {Low = Low} {ends = ends} {Holds = Holds} {levels_left = levels_left} {reader =
       reader} v low pick of h at_end goes stays stops weaker some_low =
       by_first (end_gives v at_end refl (λ r w e. e) (λ x rest e. stays x rest (stops x e))) (λ x. by x (is x) refl) where
         never : (x : T) → is x ≡ false → (r : ℕ) (ys : List T) (w : V) → IsTail is make Low v r (x ∷ ys) w → ⊥
         never x e r ys w h = let yes_it : is x ≡ true = h.0 in cc
 
-        by : (x : T) (b : Bool) → is x ≡ b → Turn (IsTail is make Low v) ends room reader x
+        by : (x : T) (b : Bool) → is x ≡ b → Turn (IsTail is make Low v) ends levels_left reader x
         by x true e =
             turn_below {Holds = Holds} make low pick of h (λ rest. goes x rest e) weaker
             (record { ending = []; value = v; derives = refl }) some_low (λ r ys u k. (e, (u, k, refl)))

@@ -15,7 +15,7 @@ module _ {T V : Type 0} where
     some : {f g : List T} {v : V} {vs : List V} → Is r f v → AreAll Is r g vs → AreAll Is r (f ++ g) (v ∷ vs)
 
   -- A member is decided by the first terminal, and read exactly.
-  pub record Member (Is : Grammar T V) (each ends : T → Type 0) (room : ℕ) (member : List T → Option (Answer T V)) (starts : T →
+  pub record Member (Is : Grammar T V) (each ends : T → Type 0) (levels_left : ℕ) (member : List T → Option (Answer T V)) (starts : T →
       Bool) (reader : Reader T V) : Type 0 where
     pub at_end : member [] ≡ None
     pub none : (x : T) (rest : List T) → starts x ≡ false → member (x ∷ rest) ≡ None
@@ -25,16 +25,16 @@ module _ {T V : Type 0} where
     pub follows : (x : T) → starts x ≡ true → each x
     pub stops : (x : T) → ends x → starts x ≡ false
     pub weaker : (x : T) → ends x → each x
-    pub turn : (x : T) → starts x ≡ true → Turn Is each room reader x
+    pub turn : (x : T) → starts x ≡ true → Turn Is each levels_left reader x
 
   -- a member after those that were read
   abbrev IsPushed : Grammar T V → List V → Grammar T (List V)
   IsPushed Is vs r xs ws = (v : V) × Is r xs v × (ws ≡ vs ++ v ∷ [])
 
-  module _ {Is : Grammar T V} {each ends : T → Type 0} {room : ℕ} {member : List T → Option (Answer T V)} {starts : T →
+  module _ {Is : Grammar T V} {each ends : T → Type 0} {levels_left : ℕ} {member : List T → Option (Answer T V)} {starts : T →
       Bool} {reader : Reader T V} where
-    pub stepping : Member Is each ends room member starts reader →
-        Stepping (IsPushed Is) (λ vs. each) ends room (push member) (λ vs. starts) (λ vs xs. map_read (λ v. vs ++ v ∷ []) (reader xs))
+    pub stepping : Member Is each ends levels_left member starts reader →
+        Stepping (IsPushed Is) (λ vs. each) ends levels_left (push member) (λ vs. starts) (λ vs xs. map_read (λ v. vs ++ v ∷ []) (reader xs))
     stepping k = record {
       at_end = λ vs. ap (push_read vs) k.at_end;
       none = λ vs x rest e. ap (push_read vs) (k.none x rest e);
@@ -62,22 +62,22 @@ module _ {T V : Type 0} where
       more (v, h, refl) (rw append_assoc at further)
 
   -- a list of members
-  pub members_exact : {Is : Grammar T V} {each ends : T → Type 0} {room : ℕ} {member : List T → Option (Answer T V)} {starts : T →
+  pub members_exact : {Is : Grammar T V} {each ends : T → Type 0} {levels_left : ℕ} {member : List T → Option (Answer T V)} {starts : T →
       Bool} {reader : Reader T V} →
-      Member Is each ends room member starts reader → Exact (AreAll Is) ends room (members member)
+      Member Is each ends levels_left member starts reader → Exact (AreAll Is) ends levels_left (members member)
   members_exact {Is = Is} k =
       exact_as (λ r xs ws h. let is = listed Is r [] xs ws h in
       rw is.2 is.1) (λ r xs us h. stepped Is r [] xs us h) (λ x h. h) (iterate_exact (stepping k) [])
 
 module _ {T V : Type 0} where
   -- members that each begin with a terminal that passes the test
-  pub marked_member : (is : T → Bool) (opener : T) → is opener ≡ true → {Is : Grammar T V} {each ends : T → Type 0} {room : ℕ}
-      {member : List T → Option (Answer T V)} {reader : Reader T V} → Begins (Is room) [] →
+  pub marked_member : (is : T → Bool) (opener : T) → is opener ≡ true → {Is : Grammar T V} {each ends : T → Type 0} {levels_left : ℕ}
+      {member : List T → Option (Answer T V)} {reader : Reader T V} → Begins (Is levels_left) [] →
       ((r : ℕ) (xs : List T) (v : V) → Is r xs v → Is (suc (suc r)) xs v) → member [] ≡ None →
       ((x : T) (rest : List T) → is x ≡ false → member (x ∷ rest) ≡ None) →
       ((x : T) (rest : List T) → is x ≡ true → member (x ∷ rest) ≡ Some (reader rest)) → ((x : T) → is x ≡ true → each x) →
-      ((x : T) → ends x → is x ≡ false) → ((x : T) → ends x → each x) → Exact Is each room reader →
-      Member (IsAfter is Is) each ends room member is (after is reader)
+      ((x : T) → ends x → is x ≡ false) → ((x : T) → ends x → each x) → Exact Is each levels_left reader →
+      Member (IsAfter is Is) each ends levels_left member is (after is reader)
   unfolding after
   marked_member is opener opens {Is = Is} {reader = reader} some_form lift_form at_end none_here some_here follows stops weaker k = record {
     at_end = at_end;

@@ -78,23 +78,23 @@ module _ {T V W : Type 0} where
       record { ending = b.ending; value = make b.value; derives = rw append_assoc derived }
 
   says_after : (Is : Grammar T V) (Made : Grammar T W) (make : V → W) (first : List T) →
-      ((r : ℕ) (ys : List T) (v : V) → Is r ys v → Made r (first ++ ys) (make v)) → (room : ℕ) (outcome : Ending V) (front rest : List T) →
-      Says Is room outcome front rest → Says Made room (map_outcome make outcome) (first ++ front) rest
-  says_after Is Made make first to room (gives v) front rest h = to room front v h
-  says_after Is Made make first to room wrong front rest h = begins_after (Is room) (Made room) make first (to room) front h
-  says_after Is Made make first to room too_deep front [] h = absurd h
-  says_after Is Made make first to room too_deep front (x ∷ rest) h = (
-    begins_after (Is room) (Made room) make first (to room) front h.0,
-    rw append_assoc (begins_after (Is (suc (suc room))) (Made (suc (suc room))) make first (to (suc (suc room))) (front ++ x ∷ []) h.1),
+      ((r : ℕ) (ys : List T) (v : V) → Is r ys v → Made r (first ++ ys) (make v)) → (levels_left : ℕ) (outcome : Ending V) (front rest : List T) →
+      Says Is levels_left outcome front rest → Says Made levels_left (map_outcome make outcome) (first ++ front) rest
+  says_after Is Made make first to levels_left (gives v) front rest h = to levels_left front v h
+  says_after Is Made make first to levels_left wrong front rest h = begins_after (Is levels_left) (Made levels_left) make first (to levels_left) front h
+  says_after Is Made make first to levels_left too_deep front [] h = absurd h
+  says_after Is Made make first to levels_left too_deep front (x ∷ rest) h = (
+    begins_after (Is levels_left) (Made levels_left) make first (to levels_left) front h.0,
+    rw append_assoc (begins_after (Is (suc (suc levels_left))) (Made (suc (suc levels_left))) make first (to (suc (suc levels_left))) (front ++ x ∷ []) h.1),
   )
 
   -- A run of a reader gives one of another that reads the same after these first terminals, with another value.
-  pub run_after : {Is : Grammar T V} {Made : Grammar T W} {room : ℕ} {reader : Reader T V} {xs : List T} (make : V →
+  pub run_after : {Is : Grammar T V} {Made : Grammar T W} {levels_left : ℕ} {reader : Reader T V} {xs : List T} (make : V →
       W) (first : List T) (other : Reader T W) →
       ((ys : List T) → SameFirst xs ys → other (first ++ ys) ≡ map_read make (reader ys)) →
-      ((r : ℕ) (ys : List T) (v : V) → Is r ys v → Made r (first ++ ys) (make v)) → Run Is room reader xs →
-      Run Made room other (first ++ xs)
-  run_after {Is = Is} {Made = Made} {room = room} {reader = reader} {xs = xs} make first other agree to k = record {
+      ((r : ℕ) (ys : List T) (v : V) → Is r ys v → Made r (first ++ ys) (make v)) → Run Is levels_left reader xs →
+      Run Made levels_left other (first ++ xs)
+  run_after {Is = Is} {Made = Made} {levels_left = levels_left} {reader = reader} {xs = xs} make first other agree to k = record {
     front = first ++ k.front;
     rest = k.rest;
     outcome = map_outcome make k.outcome;
@@ -102,33 +102,33 @@ module _ {T V W : Type 0} where
     reads = λ ys same.
         ap other (append_assoc first k.front ys) ∙ agree (k.front ++ ys) (same_split k.front k.rest xs ys k.split same)
         ∙ ap (map_read make) (k.reads ys same) ∙ map_ends make k.outcome ys;
-    says = says_after Is Made make first to room k.outcome k.front k.rest k.says;
+    says = says_after Is Made make first to levels_left k.outcome k.front k.rest k.says;
   }
 
-  pub agrees_map : (make : V → W) (room needed : ℕ) (v : V) (rest : List T) (answer : Answer T V) → Agrees room needed v rest answer →
-      Agrees room needed (make v) rest (map_read make answer)
-  agrees_map make room needed v rest (Ok (w, left)) h = (ap make h.0, h.1)
-  agrees_map make room needed v rest (Err (form left)) h = h
-  agrees_map make room needed v rest (Err (deep left)) h = h
+  pub agrees_map : (make : V → W) (levels_left needed : ℕ) (v : V) (rest : List T) (answer : Answer T V) → Agrees levels_left needed v rest answer →
+      Agrees levels_left needed (make v) rest (map_read make answer)
+  agrees_map make levels_left needed v rest (Ok (w, left)) h = (ap make h.0, h.1)
+  agrees_map make levels_left needed v rest (Err (form left)) h = h
+  agrees_map make levels_left needed v rest (Err (deep left)) h = h
 
   -- another value of what is read
-  pub exact_map : {Is : Grammar T V} {Made : Grammar T W} {ends : T → Type 0} {room : ℕ} {reader : Reader T V} (make : V → W) →
+  pub exact_map : {Is : Grammar T V} {Made : Grammar T W} {ends : T → Type 0} {levels_left : ℕ} {reader : Reader T V} (make : V → W) →
       ((r : ℕ) (xs : List T) (v : V) → Is r xs v → Made r xs (make v)) →
       ((r : ℕ) (xs : List T) (w : W) → Made r xs w → (v : V) × Is r xs v × (w ≡ make v)) →
-      Exact Is ends room reader → Exact Made ends room (λ xs. map_read make (reader xs))
-  exact_map {room = room} {reader = reader} make to from k = record {
+      Exact Is ends levels_left reader → Exact Made ends levels_left (λ xs. map_read make (reader xs))
+  exact_map {levels_left = levels_left} {reader = reader} make to from k = record {
     run = λ xs. run_after make [] (λ ys. map_read make (reader ys)) (λ ys same. refl) to (k.run xs);
-    again = λ r xs w h rest b.
+    complete = λ r xs w h rest b.
         let is = from r xs w h in
-        rw is.2 (agrees_map make room r is.0 rest (reader (xs ++ rest)) (k.again r xs is.0 is.1 rest b));
+        rw is.2 (agrees_map make levels_left r is.0 rest (reader (xs ++ rest)) (k.complete r xs is.0 is.1 rest b));
   }
 
 module _ {T V : Type 0} where
   -- the same reader for another form of its grammar, before fewer terminals
-  pub exact_as : {Is Others : Grammar T V} {ends fewer : T → Type 0} {room : ℕ} {reader : Reader T V} →
+  pub exact_as : {Is Others : Grammar T V} {ends fewer : T → Type 0} {levels_left : ℕ} {reader : Reader T V} →
       ((r : ℕ) (xs : List T) (v : V) → Is r xs v → Others r xs v) → ((r : ℕ) (xs : List T) (v : V) → Others r xs v → Is r xs v) →
-      ((x : T) → fewer x → ends x) → Exact Is ends room reader → Exact Others fewer room reader
+      ((x : T) → fewer x → ends x) → Exact Is ends levels_left reader → Exact Others fewer levels_left reader
   exact_as {ends = ends} {fewer = fewer} {reader = reader} to from weaker k = record {
     run = λ xs. run_after (λ v. v) [] reader (λ ys same. sym (map_same (reader ys))) to (k.run xs);
-    again = λ r xs v h rest b. k.again r xs v (from r xs v h) rest (before_map fewer ends weaker rest b);
+    complete = λ r xs v h rest b. k.complete r xs v (from r xs v h) rest (before_map fewer ends weaker rest b);
   }

@@ -16,8 +16,8 @@ module _ {T V W : Type 0} where
   abbrev pub IsMapped : (V → W) → Grammar T V → Grammar T W
   IsMapped make Is r xs w = (v : V) × Is r xs v × (w ≡ make v)
 
-  pub mapped_exact : (make : V → W) {Is : Grammar T V} {ends : T → Type 0} {room : ℕ} {reader : Reader T V} → Exact Is ends room reader →
-      Exact (IsMapped make Is) ends room (λ xs. map_read make (reader xs))
+  pub mapped_exact : (make : V → W) {Is : Grammar T V} {ends : T → Type 0} {levels_left : ℕ} {reader : Reader T V} → Exact Is ends levels_left reader →
+      Exact (IsMapped make Is) ends levels_left (λ xs. map_read make (reader xs))
   mapped_exact make k = exact_map make (λ r xs v h. (v, h, refl)) (λ r xs w h. h) k
 
   pub mapped_begins : (make : V → W) (Is : Grammar T V) (r : ℕ) → Begins (Is r) [] → Begins (IsMapped make Is r) []
@@ -43,18 +43,18 @@ module _ {T V W : Type 0} where
   }
 
   -- what is before anything
-  pub then_exact : {Is : List T → V → Type 0} {Next : V → Grammar T W} {ends : T → Type 0} {room : ℕ} {reader : Reader T V}
-      {next : V → Reader T W} → ((r : ℕ) (v : V) → Begins (Next v r) []) → Exact (λ r. Is) Any room reader →
-      ((v : V) → Exact (Next v) ends room (next v)) → Exact (Then Is Next) ends room (λ xs. and_then (reader xs) next)
+  pub then_exact : {Is : List T → V → Type 0} {Next : V → Grammar T W} {ends : T → Type 0} {levels_left : ℕ} {reader : Reader T V}
+      {next : V → Reader T W} → ((r : ℕ) (v : V) → Begins (Next v r) []) → Exact (λ r. Is) Any levels_left reader →
+      ((v : V) → Exact (Next v) ends levels_left (next v)) → Exact (Then Is Next) ends levels_left (λ xs. and_then (reader xs) next)
   then_exact begins k second =
       exact_then (record { lift = λ r xs v h. h; default = begins }) (λ r v xs w h rest b. before_any (xs ++ rest)) k second
 
   -- what is before some terminals, with which each further form begins
-  pub then_before : {Is : List T → V → Type 0} {Next : V → Grammar T W} {firsts ends : T → Type 0} {room : ℕ} {reader : Reader T V}
+  pub then_before : {Is : List T → V → Type 0} {Next : V → Grammar T W} {firsts ends : T → Type 0} {levels_left : ℕ} {reader : Reader T V}
       {next : V → Reader T W} → ((r : ℕ) (v : V) → Begins (Next v r) []) →
       ((r : ℕ) (v : V) (xs : List T) (w : W) → Next v r xs w → (rest : List T) → Before ends rest → Before firsts (xs ++ rest)) →
-      Exact (λ r. Is) firsts room reader → ((v : V) → Exact (Next v) ends room (next v)) →
-      Exact (Then Is Next) ends room (λ xs. and_then (reader xs) next)
+      Exact (λ r. Is) firsts levels_left reader → ((v : V) → Exact (Next v) ends levels_left (next v)) →
+      Exact (Then Is Next) ends levels_left (λ xs. and_then (reader xs) next)
   then_before begins follow k second = exact_then (record { lift = λ r xs v h. h; default = begins }) follow k second
 
 -- what is nothing more follows whatever may end

@@ -24,9 +24,9 @@ module _ {T V : Type 0} where
   pub taken_begins : (value : T → Option V) → HasExample value → (r : ℕ) → Begins (IsTaken value r) []
   taken_begins value e r = record { ending = e.example ∷ []; value = e.result; derives = (e.example, refl, e.is) }
 
-  pub taken_exact : (value : T → Option V) → HasExample value → (room : ℕ) → Exact (IsTaken value) Any room (taking value)
+  pub taken_exact : (value : T → Option V) → HasExample value → (levels_left : ℕ) → Exact (IsTaken value) Any levels_left (taking value)
   unfolding taking
-  taken_exact value e room = by_first (end_wrong refl (taken_begins value e room) (λ r v h. nothing r v h)) (λ x. by x (value x) refl) where
+  taken_exact value e levels_left = by_first (end_wrong refl (taken_begins value e levels_left) (λ r v h. nothing r v h)) (λ x. by x (value x) refl) where
     nothing : (r : ℕ) (v : V) → IsTaken value r [] v → ⊥
     nothing r v h = let same = h.1 in cc
 
@@ -42,9 +42,9 @@ module _ {T V : Type 0} where
         let found : None ≡ Some w = sym is ∙ ap value first ∙ h.2 in
         cc
 
-    by : (x : T) (o : Option V) → value x ≡ o → Turn (IsTaken value) Any room (taking value) x
+    by : (x : T) (o : Option V) → value x ≡ o → Turn (IsTaken value) Any levels_left (taking value) x
     by x (Some v) is = turn_alone v (λ rest. ap (λ o. value_or_wrong o x rest) is) (λ r. (x, refl, is)) (only x v is)
-    by x None is = turn_wrong (λ rest. ap (λ o. value_or_wrong o x rest) is) (taken_begins value e room) (none_is x is)
+    by x None is = turn_wrong (λ rest. ap (λ o. value_or_wrong o x rest) is) (taken_begins value e levels_left) (none_is x is)
 
 -- nothing more
 abbrev pub IsEnd : {T : Type 0} → Grammar T (Unit {0})
@@ -54,9 +54,9 @@ IsEnd r xs v = xs ≡ []
 abbrev pub Never : {T : Type 0} → T → Type 0
 Never x = ⊥
 
-pub end_exact : {T : Type 0} (room : ℕ) → Exact (IsEnd {T = T}) Never room at_end
+pub end_exact : {T : Type 0} (levels_left : ℕ) → Exact (IsEnd {T = T}) Never levels_left at_end
 unfolding at_end
-end_exact room = by_first (end_gives tt refl refl (λ r w h. refl) (λ x rest h. absurd h))
+end_exact levels_left = by_first (end_gives tt refl refl (λ r w h. refl) (λ x rest h. absurd h))
     (λ x. turn_wrong (λ rest. refl) (record { ending = []; value = tt; derives = refl }) (λ r ys v h. cc))
 
 pub end_begins : {T : Type 0} → Begins (IsEnd {T = T} 0) []

@@ -7,27 +7,27 @@ use Rattle.token_readers.proofs.Runs.{before_map, run_after, agrees_map, map_sam
 
 module _ {T V : Type 0} where
   -- what is read where this terminal is the first
-  pub record Turn (Is : Grammar T V) (ends : T → Type 0) (room : ℕ) (reader : Reader T V) (x : T) : Type 0 where
-    pub run : (rest : List T) → Run Is room reader (x ∷ rest)
-    pub again : (r : ℕ) (ys : List T) (v : V) → Is r (x ∷ ys) v → (rest : List T) → Before ends rest →
-        Agrees room r v rest (reader (x ∷ (ys ++ rest)))
+  pub record Turn (Is : Grammar T V) (ends : T → Type 0) (levels_left : ℕ) (reader : Reader T V) (x : T) : Type 0 where
+    pub run : (rest : List T) → Run Is levels_left reader (x ∷ rest)
+    pub complete : (r : ℕ) (ys : List T) (v : V) → Is r (x ∷ ys) v → (rest : List T) → Before ends rest →
+        Agrees levels_left r v rest (reader (x ∷ (ys ++ rest)))
 
   -- what is read where no terminal is left, and of what derives from none
-  pub record AtEnd (Is : Grammar T V) (ends : T → Type 0) (room : ℕ) (reader : Reader T V) : Type 0 where
-    pub run : Run Is room reader []
-    pub again : (r : ℕ) (v : V) → Is r [] v → (rest : List T) → Before ends rest → Agrees room r v rest (reader rest)
+  pub record AtEnd (Is : Grammar T V) (ends : T → Type 0) (levels_left : ℕ) (reader : Reader T V) : Type 0 where
+    pub run : Run Is levels_left reader []
+    pub complete : (r : ℕ) (v : V) → Is r [] v → (rest : List T) → Before ends rest → Agrees levels_left r v rest (reader rest)
 
-  pub by_first : {Is : Grammar T V} {ends : T → Type 0} {room : ℕ} {reader : Reader T V} → AtEnd Is ends room reader →
-      ((x : T) → Turn Is ends room reader x) →
-      Exact Is ends room reader
-  by_first {Is = Is} {ends = ends} {room = room} {reader = reader} end turn = record { run = run; again = again } where
-    run : (xs : List T) → Run Is room reader xs
+  pub by_first : {Is : Grammar T V} {ends : T → Type 0} {levels_left : ℕ} {reader : Reader T V} → AtEnd Is ends levels_left reader →
+      ((x : T) → Turn Is ends levels_left reader x) →
+      Exact Is ends levels_left reader
+  by_first {Is = Is} {ends = ends} {levels_left = levels_left} {reader = reader} end turn = record { run = run; complete = complete } where
+    run : (xs : List T) → Run Is levels_left reader xs
     run [] = end.run
     run (x ∷ rest) = (turn x).run rest
 
-    again : (r : ℕ) (xs : List T) (v : V) → Is r xs v → (rest : List T) → Before ends rest → Agrees room r v rest (reader (xs ++ rest))
-    again r [] v h rest b = end.again r v h rest b
-    again r (x ∷ ys) v h rest b = (turn x).again r ys v h rest b
+    complete : (r : ℕ) (xs : List T) (v : V) → Is r xs v → (rest : List T) → Before ends rest → Agrees levels_left r v rest (reader (xs ++ rest))
+    complete r [] v h rest b = end.complete r v h rest b
+    complete r (x ∷ ys) v h rest b = (turn x).complete r ys v h rest b
 
   at_end_like : (reader : Reader T V) (at : Reader T V) → reader [] ≡ at [] → (other : List T) → SameFirst [] other →
       reader other ≡ at other
@@ -39,18 +39,18 @@ module _ {T V : Type 0} where
   at_first_like reader at x rest h other (both_begin y xs ys) = h ys
 
   -- something is wanted at the end
-  pub end_wrong : {Is : Grammar T V} {ends : T → Type 0} {room : ℕ} {reader : Reader T V} → reader [] ≡ form_at [] → Begins (Is room) [] →
-      ((r : ℕ) (v : V) → Is r [] v → ⊥) → AtEnd Is ends room reader
+  pub end_wrong : {Is : Grammar T V} {ends : T → Type 0} {levels_left : ℕ} {reader : Reader T V} → reader [] ≡ form_at [] → Begins (Is levels_left) [] →
+      ((r : ℕ) (v : V) → Is r [] v → ⊥) → AtEnd Is ends levels_left reader
   end_wrong {reader = reader} e some none = record {
     run = record { front = []; rest = []; outcome = wrong; split = refl; reads = at_end_like reader form_at e; says = some };
-    again = λ r v h rest b. absurd (none r v h);
+    complete = λ r v h rest b. absurd (none r v h);
   }
 
   -- nothing is read as this value, before the end and before each terminal that may follow
-  pub end_gives : {Is : Grammar T V} {ends : T → Type 0} {room : ℕ} {reader : Reader T V} (v : V) → reader [] ≡ Ok (v, []) → Is room [] v →
+  pub end_gives : {Is : Grammar T V} {ends : T → Type 0} {levels_left : ℕ} {reader : Reader T V} (v : V) → reader [] ≡ Ok (v, []) → Is levels_left [] v →
       ((r : ℕ) (w : V) → Is r [] w → w ≡ v) → ((x : T) (rest : List T) → ends x → reader (x ∷ rest) ≡ Ok (v, x ∷ rest)) →
-      AtEnd Is ends room reader
-  end_gives {Is = Is} {ends = ends} {room = room} {reader = reader} v e derived one stays = record {
+      AtEnd Is ends levels_left reader
+  end_gives {Is = Is} {ends = ends} {levels_left = levels_left} {reader = reader} v e derived one stays = record {
     run = record {
       front = [];
       rest = [];
@@ -60,16 +60,16 @@ module _ {T V : Type 0} where
       says =
           derived;
     };
-    again = λ r w h rest b. again r w h rest b;
+    complete = λ r w h rest b. complete r w h rest b;
   } where
-    again : (r : ℕ) (w : V) → Is r [] w → (rest : List T) → Before ends rest → Agrees room r w rest (reader rest)
-    again r w h [] b = rw e (sym (one r w h), refl)
-    again r w h (x ∷ rest) b = rw (stays x rest b) (sym (one r w h), refl)
+    complete : (r : ℕ) (w : V) → Is r [] w → (rest : List T) → Before ends rest → Agrees levels_left r w rest (reader rest)
+    complete r w h [] b = rw e (sym (one r w h), refl)
+    complete r w h (x ∷ rest) b = rw (stays x rest b) (sym (one r w h), refl)
 
   -- no form begins with the terminal
-  pub turn_wrong : {Is : Grammar T V} {ends : T → Type 0} {room : ℕ} {reader : Reader T V} {x : T} →
+  pub turn_wrong : {Is : Grammar T V} {ends : T → Type 0} {levels_left : ℕ} {reader : Reader T V} {x : T} →
       ((rest : List T) → reader (x ∷ rest) ≡ form_at (x ∷ rest)) →
-      Begins (Is room) [] → ((r : ℕ) (ys : List T) (v : V) → Is r (x ∷ ys) v → ⊥) → Turn Is ends room reader x
+      Begins (Is levels_left) [] → ((r : ℕ) (ys : List T) (v : V) → Is r (x ∷ ys) v → ⊥) → Turn Is ends levels_left reader x
   turn_wrong {reader = reader} {x = x} e some none = record {
     run = λ rest. record {
       front = [];
@@ -80,15 +80,15 @@ module _ {T V : Type 0} where
       says =
           some;
     };
-    again = λ r ys v h rest b. absurd (none r ys v h);
+    complete = λ r ys v h rest b. absurd (none r ys v h);
   }
 
   -- only forms with more levels begin with the terminal
-  pub turn_deep : {Is : Grammar T V} {ends : T → Type 0} {room : ℕ} {reader : Reader T V} {x : T} →
+  pub turn_deep : {Is : Grammar T V} {ends : T → Type 0} {levels_left : ℕ} {reader : Reader T V} {x : T} →
       ((rest : List T) → reader (x ∷ rest) ≡ deep_at (x ∷ rest)) →
-      Begins (Is room) [] → Begins (Is (suc (suc room))) (x ∷ []) → ((r : ℕ) (ys : List T) (v : V) → Is r (x ∷ ys) v → room < r) →
-      Turn Is ends room reader x
-  turn_deep {Is = Is} {ends = ends} {room = room} {reader = reader} {x = x} e some higher more = record {
+      Begins (Is levels_left) [] → Begins (Is (suc (suc levels_left))) (x ∷ []) → ((r : ℕ) (ys : List T) (v : V) → Is r (x ∷ ys) v → levels_left < r) →
+      Turn Is ends levels_left reader x
+  turn_deep {Is = Is} {ends = ends} {levels_left = levels_left} {reader = reader} {x = x} e some higher more = record {
     run = λ rest. record {
       front = [];
       rest = x ∷ rest;
@@ -98,13 +98,13 @@ module _ {T V : Type 0} where
           at_first_like reader deep_at x rest e;
       says = (some, higher);
     };
-    again = λ r ys v h rest b. rw (e (ys ++ rest)) (more r ys v h);
+    complete = λ r ys v h rest b. rw (e (ys ++ rest)) (more r ys v h);
   }
 
   -- the terminal is left, and nothing before it has this value
-  pub turn_gives : {Is : Grammar T V} {ends : T → Type 0} {room : ℕ} {reader : Reader T V} {x : T} (v : V) →
+  pub turn_gives : {Is : Grammar T V} {ends : T → Type 0} {levels_left : ℕ} {reader : Reader T V} {x : T} (v : V) →
       ((rest : List T) → reader (x ∷ rest) ≡ Ok (v, x ∷ rest)) →
-      Is room [] v → ((r : ℕ) (ys : List T) (w : V) → Is r (x ∷ ys) w → ⊥) → Turn Is ends room reader x
+      Is levels_left [] v → ((r : ℕ) (ys : List T) (w : V) → Is r (x ∷ ys) w → ⊥) → Turn Is ends levels_left reader x
   turn_gives {reader = reader} {x = x} v e derived none = record {
     run = λ rest. record {
       front = [];
@@ -115,14 +115,14 @@ module _ {T V : Type 0} where
           at_first_like reader (λ ys. Ok (v, ys)) x rest e;
       says = derived;
     };
-    again = λ r ys w h rest b. absurd (none r ys w h);
+    complete = λ r ys w h rest b. absurd (none r ys w h);
   }
 
   -- the terminal alone has this value
-  pub turn_alone : {Is : Grammar T V} {ends : T → Type 0} {room : ℕ} {reader : Reader T V} {x : T} (v : V) →
+  pub turn_alone : {Is : Grammar T V} {ends : T → Type 0} {levels_left : ℕ} {reader : Reader T V} {x : T} (v : V) →
       ((rest : List T) → reader (x ∷ rest) ≡ Ok (v, rest)) →
-      ((r : ℕ) → Is r (x ∷ []) v) → ((r : ℕ) (ys : List T) (w : V) → Is r (x ∷ ys) w → (ys ≡ []) × (w ≡ v)) → Turn Is ends room reader x
-  turn_alone {room = room} {reader = reader} {x = x} v e derived only = record {
+      ((r : ℕ) → Is r (x ∷ []) v) → ((r : ℕ) (ys : List T) (w : V) → Is r (x ∷ ys) w → (ys ≡ []) × (w ≡ v)) → Turn Is ends levels_left reader x
+  turn_alone {levels_left = levels_left} {reader = reader} {x = x} v e derived only = record {
     run = λ rest. record {
       front = x ∷ [];
       rest = rest;
@@ -130,74 +130,74 @@ module _ {T V : Type 0} where
       split = refl;
       reads = λ other same. e other;
       says =
-          derived room;
+          derived levels_left;
     };
-    again = λ r ys w h rest b. let is = only r ys w h in rw (is.0, is.1, e rest) (refl, refl);
+    complete = λ r ys w h rest b. let is = only r ys w h in rw (is.0, is.1, e rest) (refl, refl);
   }
 
 module _ {T V : Type 0} where
-  pub turn_of : {Is : Grammar T V} {ends : T → Type 0} {room : ℕ} {reader : Reader T V} → Exact Is ends room reader → (x : T) →
-      Turn Is ends room reader x
-  turn_of k x = record { run = λ rest. k.run (x ∷ rest); again = λ r ys v h rest b. k.again r (x ∷ ys) v h rest b }
+  pub turn_of : {Is : Grammar T V} {ends : T → Type 0} {levels_left : ℕ} {reader : Reader T V} → Exact Is ends levels_left reader → (x : T) →
+      Turn Is ends levels_left reader x
+  turn_of k x = record { run = λ rest. k.run (x ∷ rest); complete = λ r ys v h rest b. k.complete r (x ∷ ys) v h rest b }
 
 module _ {T U V : Type 0} where
   -- another value of what is read
-  pub turn_map : {Is : Grammar T U} {Made : Grammar T V} {ends : T → Type 0} {room : ℕ} {reader : Reader T U} {x : T} (make : U → V) →
+  pub turn_map : {Is : Grammar T U} {Made : Grammar T V} {ends : T → Type 0} {levels_left : ℕ} {reader : Reader T U} {x : T} (make : U → V) →
       ((r : ℕ) (xs : List T) (u : U) → Is r xs u → Made r xs (make u)) →
       ((r : ℕ) (xs : List T) (v : V) → Made r xs v → (u : U) × Is r xs u × (v ≡ make u)) →
-      Turn Is ends room reader x → Turn Made ends room (λ xs. map_read make (reader xs)) x
-  turn_map {room = room} {reader = reader} {x = x} make to from k = record {
+      Turn Is ends levels_left reader x → Turn Made ends levels_left (λ xs. map_read make (reader xs)) x
+  turn_map {levels_left = levels_left} {reader = reader} {x = x} make to from k = record {
     run = λ rest. run_after make [] (λ ys. map_read make (reader ys)) (λ ys same. refl) to (k.run rest);
-    again = λ r ys v h rest b.
+    complete = λ r ys v h rest b.
         let is = from r (x ∷ ys) v h in
-        rw is.2 (agrees_map make room r is.0 rest (reader (x ∷ (ys ++ rest))) (k.again r ys is.0 is.1 rest b));
+        rw is.2 (agrees_map make levels_left r is.0 rest (reader (x ∷ (ys ++ rest))) (k.complete r ys is.0 is.1 rest b));
   }
 
   -- the terminal is taken, and another reader goes on
-  pub turn_takes : {Goes : Grammar T U} {Is : Grammar T V} {goes ends : T → Type 0} {room : ℕ} {reader : Reader T V} {x : T} (make : U →
+  pub turn_takes : {Goes : Grammar T U} {Is : Grammar T V} {goes ends : T → Type 0} {levels_left : ℕ} {reader : Reader T V} {x : T} (make : U →
       V) (next : Reader T U) →
       ((rest : List T) → reader (x ∷ rest) ≡ map_read make (next rest)) → ((y : T) → ends y → goes y) →
       ((r : ℕ) (ys : List T) (u : U) → Goes r ys u → Is r (x ∷ ys) (make u)) →
       ((r : ℕ) (ys : List T) (v : V) → Is r (x ∷ ys) v → (u : U) × Goes r ys u × (v ≡ make u)) →
-      Exact Goes goes room next → Turn Is ends room reader x
-  turn_takes {Goes = Goes} {goes = goes} {ends = ends} {room = room} {reader = reader} {x = x} make next e weaker to from k = record {
+      Exact Goes goes levels_left next → Turn Is ends levels_left reader x
+  turn_takes {Goes = Goes} {goes = goes} {ends = ends} {levels_left = levels_left} {reader = reader} {x = x} make next e weaker to from k = record {
     run = λ rest. run_after make (x ∷ []) reader (λ ys same. e ys) to (k.run rest);
-    again = λ r ys v h rest b.
+    complete = λ r ys v h rest b.
         let is = from r ys v h in
         rw (is.2, e (ys ++ rest))
-        (agrees_map make room r is.0 rest (next (ys ++ rest)) (k.again r ys is.0 is.1 rest (before_map ends goes weaker rest b)));
+        (agrees_map make levels_left r is.0 rest (next (ys ++ rest)) (k.complete r ys is.0 is.1 rest (before_map ends goes weaker rest b)));
   }
 
   -- another reader begins with the terminal
-  pub turn_as : {Others : Grammar T U} {Is : Grammar T V} {others ends : T → Type 0} {room : ℕ} {reader : Reader T V} {x : T} (make : U →
+  pub turn_as : {Others : Grammar T U} {Is : Grammar T V} {others ends : T → Type 0} {levels_left : ℕ} {reader : Reader T V} {x : T} (make : U →
       V) (other : Reader T U) →
       ((rest : List T) → reader (x ∷ rest) ≡ map_read make (other (x ∷ rest))) → ((y : T) → ends y → others y) →
       ((r : ℕ) (ys : List T) (u : U) → Others r ys u → Is r ys (make u)) →
       ((r : ℕ) (ys : List T) (v : V) → Is r (x ∷ ys) v → (u : U) × Others r (x ∷ ys) u × (v ≡ make u)) →
-      Exact Others others room other → Turn Is ends room reader x
-  turn_as {Others = Others} {others = others} {ends = ends} {room = room} {reader = reader} {x = x} make other e weaker to from k = record {
+      Exact Others others levels_left other → Turn Is ends levels_left reader x
+  turn_as {Others = Others} {others = others} {ends = ends} {levels_left = levels_left} {reader = reader} {x = x} make other e weaker to from k = record {
     run = λ rest. run_after make [] reader (agree rest) to (k.run (x ∷ rest));
-    again = λ r ys v h rest b.
+    complete = λ r ys v h rest b.
         let is = from r ys v h in
         rw (is.2, e (ys ++ rest))
-        (agrees_map make room r is.0 rest (other (x ∷ (ys ++ rest)))
-        (k.again r (x ∷ ys) is.0 is.1 rest (before_map ends others weaker rest b)));
+        (agrees_map make levels_left r is.0 rest (other (x ∷ (ys ++ rest)))
+        (k.complete r (x ∷ ys) is.0 is.1 rest (before_map ends others weaker rest b)));
   } where
     agree : (rest ys : List T) → SameFirst (x ∷ rest) ys → reader ys ≡ map_read make (other ys)
     agree rest ys (both_begin y xs zs) = e zs
 
   -- at the end it reads as another reader
-  pub end_as : {Others : Grammar T U} {Is : Grammar T V} {others ends : T → Type 0} {room : ℕ} {reader : Reader T V} (make : U →
+  pub end_as : {Others : Grammar T U} {Is : Grammar T V} {others ends : T → Type 0} {levels_left : ℕ} {reader : Reader T V} (make : U →
       V) (other : Reader T U) →
       reader [] ≡ map_read make (other []) → ((y : T) → ends y → others y) →
       ((r : ℕ) (ys : List T) (u : U) → Others r ys u → Is r ys (make u)) →
       ((r : ℕ) (v : V) → Is r [] v → (u : U) × Others r [] u × (v ≡ make u)) →
       ((r : ℕ) (v : V) → Is r [] v → (y : T) (rest : List T) → ends y → reader (y ∷ rest) ≡ map_read make (other (y ∷ rest))) →
-      Exact Others others room other → AtEnd Is ends room reader
-  end_as {Others = Others} {Is = Is} {others = others} {ends = ends} {room = room} {reader = reader} make other e weaker to from stays k =
+      Exact Others others levels_left other → AtEnd Is ends levels_left reader
+  end_as {Others = Others} {Is = Is} {others = others} {ends = ends} {levels_left = levels_left} {reader = reader} make other e weaker to from stays k =
       record {
         run = run_after make [] reader agree to (k.run []);
-        again = again;
+        complete = complete;
       } where
         agree : (ys : List T) → SameFirst [] ys → reader ys ≡ map_read make (other ys)
         agree ys both_end = e
@@ -206,11 +206,11 @@ module _ {T U V : Type 0} where
         same r v h [] b = e
         same r v h (y ∷ rest) b = stays r v h y rest b
 
-        again : (r : ℕ) (v : V) → Is r [] v → (rest : List T) → Before ends rest → Agrees room r v rest (reader rest)
-        again r v h rest b =
+        complete : (r : ℕ) (v : V) → Is r [] v → (rest : List T) → Before ends rest → Agrees levels_left r v rest (reader rest)
+        complete r v h rest b =
             let is = from r v h in
             rw (same r v h rest b, is.2)
-            (agrees_map make room r is.0 rest (other rest) (k.again r [] is.0 is.1 rest (before_map ends others weaker rest b)))
+            (agrees_map make levels_left r is.0 rest (other rest) (k.complete r [] is.0 is.1 rest (before_map ends others weaker rest b)))
 
 module _ {T V : Type 0} where
   -- a terminal that passes the test, and then a form
@@ -219,18 +219,18 @@ module _ {T V : Type 0} where
   IsAfter is Is r (x ∷ ys) v = (is x ≡ true) × Is r ys v
 
   pub after_exact : (is : T → Bool) (opener : T) → is opener ≡ true →
-      {Is : Grammar T V} {ends : T → Type 0} {room : ℕ} {reader : Reader T V} → Begins (Is room) [] →
-      Exact Is ends room reader → Exact (IsAfter is Is) ends room (after is reader)
+      {Is : Grammar T V} {ends : T → Type 0} {levels_left : ℕ} {reader : Reader T V} → Begins (Is levels_left) [] →
+      Exact Is ends levels_left reader → Exact (IsAfter is Is) ends levels_left (after is reader)
   unfolding after
-  after_exact is opener opens {Is = Is} {ends = ends} {room = room} {reader = reader} some k =
+  after_exact is opener opens {Is = Is} {ends = ends} {levels_left = levels_left} {reader = reader} some k =
       by_first (end_wrong refl begins (λ r v h. h)) (λ x. by x (is x) refl) where
-        begins : Begins (IsAfter is Is room) []
+        begins : Begins (IsAfter is Is levels_left) []
         begins = record { ending = opener ∷ some.ending; value = some.value; derives = (opens, some.derives) }
 
         never : (x : T) → is x ≡ false → (r : ℕ) (ys : List T) (v : V) → IsAfter is Is r (x ∷ ys) v → ⊥
         never x e r ys v h = let yes_it : is x ≡ true = h.0 in cc
 
-        by : (x : T) (b : Bool) → is x ≡ b → Turn (IsAfter is Is) ends room (after is reader) x
+        by : (x : T) (b : Bool) → is x ≡ b → Turn (IsAfter is Is) ends levels_left (after is reader) x
         by x true e =
             turn_takes (λ v. v) reader (λ rest. ap (λ b. if b then reader rest else form_at (x ∷ rest)) e
             ∙ sym (map_same (reader rest))) (λ y h. h) (λ r ys v h. (e, h))

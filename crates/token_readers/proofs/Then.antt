@@ -45,7 +45,7 @@ module _ {T V W : Type 0} where
             further h.value r h.tail w h.second;
       }
 
-  -- the first grammar needs no more room than there is, and something derives after each of its values
+  -- the first grammar needs no more levels than there are, and something derives after each of its values
   pub record Fits (Is : Grammar T V) (Next : V → Grammar T W) : Type 0 where
     pub lift : (r : ℕ) (xs : List T) (v : V) → Is r xs v → Is (suc (suc r)) xs v
     pub default : (r : ℕ) (v : V) → Begins (Next v r) []
@@ -83,24 +83,24 @@ module _ {T V W : Type 0} where
     };
   }
 
-  says_then : (Is : Grammar T V) (Next : V → Grammar T W) → Fits Is Next → (room : ℕ) (f : List T) (v : V) → Is room f v →
+  says_then : (Is : Grammar T V) (Next : V → Grammar T W) → Fits Is Next → (levels_left : ℕ) (f : List T) (v : V) → Is levels_left f v →
       (outcome : Ending W) (front rest : List T) →
-      Says (Next v) room outcome front rest → Says (IsThen Is Next) room outcome (f ++ front) rest
-  says_then Is Next fits room f v h (gives w) front rest k =
+      Says (Next v) levels_left outcome front rest → Says (IsThen Is Next) levels_left outcome (f ++ front) rest
+  says_then Is Next fits levels_left f v h (gives w) front rest k =
       record { value = v; front = f; tail = front; split = refl; first = h; second = k }
-  says_then Is Next fits room f v h wrong front rest k = second_begins Is Next room f front v h k
-  says_then Is Next fits room f v h too_deep front [] k = absurd k
-  says_then Is Next fits room f v h too_deep front (x ∷ rest) k = (
-    second_begins Is Next room f front v h k.0,
-    rw append_assoc (second_begins Is Next (suc (suc room)) f (front ++ x ∷ []) v (fits.lift room f v h) k.1),
+  says_then Is Next fits levels_left f v h wrong front rest k = second_begins Is Next levels_left f front v h k
+  says_then Is Next fits levels_left f v h too_deep front [] k = absurd k
+  says_then Is Next fits levels_left f v h too_deep front (x ∷ rest) k = (
+    second_begins Is Next levels_left f front v h k.0,
+    rw append_assoc (second_begins Is Next (suc (suc levels_left)) f (front ++ x ∷ []) v (fits.lift levels_left f v h) k.1),
   )
 
   run_second : (Is : Grammar T V) (Next : V → Grammar T W) → Fits Is Next →
-      (room : ℕ) (reader : Reader T V) (next : V → Reader T W) (xs front rest : List T) (v : V) →
-      xs ≡ front ++ rest → ((other : List T) → SameFirst rest other → reader (front ++ other) ≡ Ok (v, other)) → Is room front v →
-      Run (Next v) room (next v) rest →
-      Run (IsThen Is Next) room (λ ys. and_then (reader ys) next) xs
-  run_second Is Next fits room reader next xs front rest v split reads h k = record {
+      (levels_left : ℕ) (reader : Reader T V) (next : V → Reader T W) (xs front rest : List T) (v : V) →
+      xs ≡ front ++ rest → ((other : List T) → SameFirst rest other → reader (front ++ other) ≡ Ok (v, other)) → Is levels_left front v →
+      Run (Next v) levels_left (next v) rest →
+      Run (IsThen Is Next) levels_left (λ ys. and_then (reader ys) next) xs
+  run_second Is Next fits levels_left reader next xs front rest v split reads h k = record {
     front = front ++ k.front;
     rest = k.rest;
     outcome = k.outcome;
@@ -109,20 +109,20 @@ module _ {T V W : Type 0} where
         ap (λ ys. and_then (reader ys) next) (append_assoc front k.front other)
         ∙ ap (λ answer. and_then answer next) (reads (k.front ++ other) (same_split k.front k.rest rest other k.split same))
         ∙ k.reads other same;
-    says = says_then Is Next fits room front v h k.outcome k.front k.rest k.says;
+    says = says_then Is Next fits levels_left front v h k.outcome k.front k.rest k.says;
   }
 
   -- a run of the first reader, and one of the second where the first gives a value
   pub run_then : (Is : Grammar T V) (Next : V → Grammar T W) → Fits Is Next →
-      (room : ℕ) (reader : Reader T V) (next : V → Reader T W) (xs : List T) → Run Is room reader xs →
-      ((v : V) (rest : List T) → reader xs ≡ Ok (v, rest) → Run (Next v) room (next v) rest) →
-      Run (IsThen Is Next) room (λ ys. and_then (reader ys) next) xs
-  run_then Is Next fits room reader next xs k second = by k.front k.rest k.outcome k.split k.reads k.says where
+      (levels_left : ℕ) (reader : Reader T V) (next : V → Reader T W) (xs : List T) → Run Is levels_left reader xs →
+      ((v : V) (rest : List T) → reader xs ≡ Ok (v, rest) → Run (Next v) levels_left (next v) rest) →
+      Run (IsThen Is Next) levels_left (λ ys. and_then (reader ys) next) xs
+  run_then Is Next fits levels_left reader next xs k second = by k.front k.rest k.outcome k.split k.reads k.says where
     by : (front rest : List T) (outcome : Ending V) → xs ≡ front ++ rest →
         ((other : List T) → SameFirst rest other → reader (front ++ other) ≡ ends_with outcome other) →
-        Says Is room outcome front rest → Run (IsThen Is Next) room (λ ys. and_then (reader ys) next) xs
+        Says Is levels_left outcome front rest → Run (IsThen Is Next) levels_left (λ ys. and_then (reader ys) next) xs
     by front rest (gives v) split reads says =
-        run_second Is Next fits room reader next xs front rest v split reads says (second v rest (ap reader split
+        run_second Is Next fits levels_left reader next xs front rest v split reads says (second v rest (ap reader split
         ∙ reads rest (same_first rest)))
     by front rest wrong split reads says = record {
       front = front;
@@ -130,7 +130,7 @@ module _ {T V W : Type 0} where
       outcome = wrong;
       split = split;
       reads = λ other same. ap (λ answer. and_then answer next) (reads other same);
-      says = first_begins Is Next fits room front says;
+      says = first_begins Is Next fits levels_left front says;
     }
     by front [] too_deep split reads says = absurd says
     by front (x ∷ rest) too_deep split reads says = record {
@@ -139,34 +139,34 @@ module _ {T V W : Type 0} where
       outcome = too_deep;
       split = split;
       reads = λ other same. ap (λ answer. and_then answer next) (reads other same);
-      says = (first_begins Is Next fits room front says.0, first_begins Is Next fits (suc (suc room)) (front ++ x ∷ []) says.1);
+      says = (first_begins Is Next fits levels_left front says.0, first_begins Is Next fits (suc (suc levels_left)) (front ++ x ∷ []) says.1);
     }
 
-  pub agrees_then : (room needed : ℕ) (v : V) (w : W) (ys rest : List T) (answer : Answer T V) (next : V → Reader T W) →
-      Agrees room needed v ys answer →
-      Agrees room needed w rest (next v ys) → Agrees room needed w rest (and_then answer next)
-  agrees_then room needed v w ys rest (Ok (u, left)) next h k = rw (h.0, h.1) k
-  agrees_then room needed v w ys rest (Err (form left)) next h k = h
-  agrees_then room needed v w ys rest (Err (deep left)) next h k = h
+  pub agrees_then : (levels_left needed : ℕ) (v : V) (w : W) (ys rest : List T) (answer : Answer T V) (next : V → Reader T W) →
+      Agrees levels_left needed v ys answer →
+      Agrees levels_left needed w rest (next v ys) → Agrees levels_left needed w rest (and_then answer next)
+  agrees_then levels_left needed v w ys rest (Ok (u, left)) next h k = rw (h.0, h.1) k
+  agrees_then levels_left needed v w ys rest (Err (form left)) next h k = h
+  agrees_then levels_left needed v w ys rest (Err (deep left)) next h k = h
 
   -- one reader after another
-  pub exact_then : {Is : Grammar T V} {Next : V → Grammar T W} {firsts ends : T → Type 0} {room : ℕ} {reader : Reader T V} {next : V →
+  pub exact_then : {Is : Grammar T V} {Next : V → Grammar T W} {firsts ends : T → Type 0} {levels_left : ℕ} {reader : Reader T V} {next : V →
       Reader T W} → Fits Is Next →
       ((r : ℕ) (v : V) (xs : List T) (w : W) → Next v r xs w → (rest : List T) → Before ends rest → Before firsts (xs ++ rest)) →
-      Exact Is firsts room reader → ((v : V) → Exact (Next v) ends room (next v)) →
-      Exact (IsThen Is Next) ends room (λ xs. and_then (reader xs) next)
-  exact_then {Is = Is} {Next = Next} {firsts = firsts} {ends = ends} {room = room} {reader = reader} {next = next} fits follow k second =
+      Exact Is firsts levels_left reader → ((v : V) → Exact (Next v) ends levels_left (next v)) →
+      Exact (IsThen Is Next) ends levels_left (λ xs. and_then (reader xs) next)
+  exact_then {Is = Is} {Next = Next} {firsts = firsts} {ends = ends} {levels_left = levels_left} {reader = reader} {next = next} fits follow k second =
       record {
-        run = λ xs. run_then Is Next fits room reader next xs (k.run xs) (λ v rest e. (second v).run rest);
-        again = λ r xs w h rest b. again r xs w h rest b;
+        run = λ xs. run_then Is Next fits levels_left reader next xs (k.run xs) (λ v rest e. (second v).run rest);
+        complete = λ r xs w h rest b. complete r xs w h rest b;
       } where
-        again : (r : ℕ) (xs : List T) (w : W) → IsThen Is Next r xs w → (rest : List T) → Before ends rest →
-            Agrees room r w rest (and_then (reader (xs ++ rest)) next)
-        again r xs w h rest b =
-            let whole : Agrees room r w rest (and_then (reader (h.front ++ (h.tail ++ rest))) next) =
-            agrees_then room r h.value w (h.tail ++ rest) rest (reader (h.front ++ (h.tail ++ rest))) next
-            (k.again r h.front h.value h.first (h.tail ++ rest) (follow r h.value h.tail w h.second rest b))
-            ((second h.value).again r h.tail w h.second rest b) in
+        complete : (r : ℕ) (xs : List T) (w : W) → IsThen Is Next r xs w → (rest : List T) → Before ends rest →
+            Agrees levels_left r w rest (and_then (reader (xs ++ rest)) next)
+        complete r xs w h rest b =
+            let whole : Agrees levels_left r w rest (and_then (reader (h.front ++ (h.tail ++ rest))) next) =
+            agrees_then levels_left r h.value w (h.tail ++ rest) rest (reader (h.front ++ (h.tail ++ rest))) next
+            (k.complete r h.front h.value h.first (h.tail ++ rest) (follow r h.value h.tail w h.second rest b))
+            ((second h.value).complete r h.tail w h.second rest b) in
             rw (h.split, append_assoc) whole
 
 -- any terminal may follow
@@ -178,10 +178,10 @@ module _ {T V : Type 0} where
   abbrev pub IsClosing : (T → Bool) → V → Grammar T V
   IsClosing is v r xs w = (x : T) × (xs ≡ x ∷ []) × (is x ≡ true) × (w ≡ v)
 
-  closing_run : (is : T → Bool) (closer : T) → is closer ≡ true → (v : V) (room : ℕ) (xs : List T) →
-      Run (IsClosing is v) room (closing is v) xs
+  closing_run : (is : T → Bool) (closer : T) → is closer ≡ true → (v : V) (levels_left : ℕ) (xs : List T) →
+      Run (IsClosing is v) levels_left (closing is v) xs
   unfolding closing
-  closing_run is closer closes v room [] = record {
+  closing_run is closer closes v levels_left [] = record {
     front = [];
     rest = [];
     outcome = wrong;
@@ -191,14 +191,14 @@ module _ {T V : Type 0} where
   } where
     end : (other : List T) → SameFirst [] other → closing is v other ≡ form_at other
     end other both_end = refl
-  closing_run is closer closes v room (x ∷ rest) = by (is x) refl where
+  closing_run is closer closes v levels_left (x ∷ rest) = by (is x) refl where
     here : (b : Bool) → is x ≡ b → (other : List T) → closing is v (x ∷ other) ≡ (if b then Ok (v, other) else form_at (x ∷ other))
     here b e other = ap (λ c. if c then Ok (v, other) else form_at (x ∷ other)) e
 
     stays : is x ≡ false → (other : List T) → SameFirst (x ∷ rest) other → closing is v other ≡ form_at other
     stays e other (both_begin y ys zs) = here false e zs
 
-    by : (b : Bool) → is x ≡ b → Run (IsClosing is v) room (closing is v) (x ∷ rest)
+    by : (b : Bool) → is x ≡ b → Run (IsClosing is v) levels_left (closing is v) (x ∷ rest)
     by true e = record {
       front = x ∷ [];
       rest = rest;
@@ -217,14 +217,14 @@ module _ {T V : Type 0} where
     }
 
   -- a terminal that closes a form
-  pub closing_exact : (is : T → Bool) (closer : T) → is closer ≡ true → (v : V) (room : ℕ) → Exact (IsClosing is v) Any room (closing is v)
+  pub closing_exact : (is : T → Bool) (closer : T) → is closer ≡ true → (v : V) (levels_left : ℕ) → Exact (IsClosing is v) Any levels_left (closing is v)
   unfolding closing
-  closing_exact is closer closes v room = record {
-    run = closing_run is closer closes v room;
-    again = λ r xs w h rest b. again r xs w h rest;
+  closing_exact is closer closes v levels_left = record {
+    run = closing_run is closer closes v levels_left;
+    complete = λ r xs w h rest b. complete r xs w h rest;
   } where
-    again : (r : ℕ) (xs : List T) (w : V) → IsClosing is v r xs w → (rest : List T) → Agrees room r w rest (closing is v (xs ++ rest))
-    again r xs w h rest = rw (h.1, h.3, h.2) (refl, refl)
+    complete : (r : ℕ) (xs : List T) (w : V) → IsClosing is v r xs w → (rest : List T) → Agrees levels_left r w rest (closing is v (xs ++ rest))
+    complete r xs w h rest = rw (h.1, h.3, h.2) (refl, refl)
 
   -- a form and the terminal that closes it
   abbrev pub IsClosed : (T → Bool) → Grammar T V → Grammar T V
@@ -235,16 +235,16 @@ module _ {T V : Type 0} where
   lift_closed is Is lift = lift_then Is (IsClosing is) lift (λ v r xs w h. h)
 
   pub closed_exact : (is : T → Bool) (closer : T) → is closer ≡ true →
-      {Is : Grammar T V} {ends : T → Type 0} {room : ℕ} {reader : Reader T V} →
-      ((x : T) → is x ≡ true → ends x) → ((r : ℕ) (xs : List T) (v : V) → Is r xs v → Is (suc (suc r)) xs v) → Exact Is ends room reader →
-      Exact (IsClosed is Is) Any room (closed_by is reader)
-  closed_exact is closer closes {Is = Is} {ends = ends} {room = room} {reader = reader} follows lift k =
+      {Is : Grammar T V} {ends : T → Type 0} {levels_left : ℕ} {reader : Reader T V} →
+      ((x : T) → is x ≡ true → ends x) → ((r : ℕ) (xs : List T) (v : V) → Is r xs v → Is (suc (suc r)) xs v) → Exact Is ends levels_left reader →
+      Exact (IsClosed is Is) Any levels_left (closed_by is reader)
+  closed_exact is closer closes {Is = Is} {ends = ends} {levels_left = levels_left} {reader = reader} follows lift k =
       exact_then (record {
         lift = lift;
         default =
             λ r v. record { ending = closer ∷ []; value = v; derives = (closer, refl, closes, refl) };
       }) follow k
-      (λ v. closing_exact is closer closes v room)
+      (λ v. closing_exact is closer closes v levels_left)
     where
       follow : (r : ℕ) (v : V) (xs : List T) (w : V) → IsClosing is v r xs w → (rest : List T) → Before Any rest → Before ends (xs ++ rest)
       follow r v xs w h rest b = rw h.1 (follows h.0 h.2)

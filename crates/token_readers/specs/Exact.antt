@@ -1,9 +1,9 @@
--- When a reader reads exactly a grammar. A grammar tells from which lists of terminals a value derives, with room for so
+-- When a reader reads exactly a grammar. A grammar tells from which lists of terminals a value derives, with levels left for so
 -- many levels below.
 use Rattle.std.specs.Prelude.{◌≡◌, ℕ, suc, ◌<◌, List, [], ◌∷◌, ◌++◌, Ok, Err}
 use Rattle.token_readers.specs.Readers.{form, deep, Answer, Reader, form_at, deep_at}
 
--- which values derive from which terminals, with this room
+-- which values derive from which terminals, with these levels left
 abbrev pub Grammar : Type 0 → Type 0 → Type 1
 Grammar T V = ℕ → List T → V → Type 0
 
@@ -41,29 +41,29 @@ module _ {T V : Type 0} where
   -- derives from terminals that begin so. Before a level too many too, and with two levels more from those up to and
   -- with it.
   abbrev pub Says : Grammar T V → ℕ → Ending V → List T → List T → Type 0
-  Says Is room (gives v) front rest = Is room front v
-  Says Is room wrong front rest = Begins (Is room) front
-  Says Is room too_deep front [] = ⊥
-  Says Is room too_deep front (x ∷ rest) = Begins (Is room) front × Begins (Is (suc (suc room))) (front ++ x ∷ [])
+  Says Is levels_left (gives v) front rest = Is levels_left front v
+  Says Is levels_left wrong front rest = Begins (Is levels_left) front
+  Says Is levels_left too_deep front [] = ⊥
+  Says Is levels_left too_deep front (x ∷ rest) = Begins (Is levels_left) front × Begins (Is (suc (suc levels_left))) (front ++ x ∷ [])
 
   -- Reading ends in one way for all terminals that agree up to and with the first one that is left, and the grammar
   -- says so.
-  pub record Run (Is : Grammar T V) (room : ℕ) (reader : Reader T V) (xs : List T) : Type 0 where
+  pub record Run (Is : Grammar T V) (levels_left : ℕ) (reader : Reader T V) (xs : List T) : Type 0 where
     pub front : List T
     pub rest : List T
     pub outcome : Ending V
     pub split : xs ≡ front ++ rest
     pub reads : (other : List T) → SameFirst rest other → reader (front ++ other) ≡ ends_with outcome other
-    pub says : Says Is room outcome front rest
+    pub says : Says Is levels_left outcome front rest
 
-  -- the answer to terminals of which a value derives with room `needed`: it is the value, unless there was less room
+  -- the answer to terminals of which a value derives with levels `needed`: it is the value, unless fewer levels were left
   abbrev pub Agrees : ℕ → ℕ → V → List T → Answer T V → Type 0
-  Agrees room needed v rest (Ok (w, left)) = (w ≡ v) × (left ≡ rest)
-  Agrees room needed v rest (Err (form left)) = ⊥
-  Agrees room needed v rest (Err (deep left)) = room < needed
+  Agrees levels_left needed v rest (Ok (w, left)) = (w ≡ v) × (left ≡ rest)
+  Agrees levels_left needed v rest (Err (form left)) = ⊥
+  Agrees levels_left needed v rest (Err (deep left)) = levels_left < needed
 
   -- The reader reads exactly the grammar, where such a terminal or none follows.
-  pub record Exact (Is : Grammar T V) (ends : T → Type 0) (room : ℕ) (reader : Reader T V) : Type 0 where
-    pub run : (xs : List T) → Run Is room reader xs
-    pub again : (r : ℕ) (xs : List T) (v : V) → Is r xs v → (rest : List T) → Before ends rest →
-        Agrees room r v rest (reader (xs ++ rest))
+  pub record Exact (Is : Grammar T V) (ends : T → Type 0) (levels_left : ℕ) (reader : Reader T V) : Type 0 where
+    pub run : (xs : List T) → Run Is levels_left reader xs
+    pub complete : (r : ℕ) (xs : List T) (v : V) → Is r xs v → (rest : List T) → Before ends rest →
+        Agrees levels_left r v rest (reader (xs ++ rest))

@@ -39,5 +39,5 @@ pub record IsCutOff (text : List ℕ) (sink : Effect) : Type 0 where
   pub fault : HasFailed sink
 
 -- the bytes are those that a source tells, where it tells some
-abbrev pub AreTold : Option (List ℕ) → List ℕ → Type 0
-AreTold told bytes = WhereTold told (λ known. known ≡ bytes)
+abbrev pub ContentsAre : Option (List ℕ) → List ℕ → Type 0
+ContentsAre told bytes = WhereTold told (λ known. known ≡ bytes)

@@ -83,9 +83,9 @@ wrong_token text tokens are left h token there some =
       place = refl;
       begins = form_begins deepest_level (terminals text tokens) left h (terminals text s.before)
           (terminal_at text token ∷ terminals text s.after) s.terminals_are s.here;
-      stops = λ room. rw (terminals_split text s.before token [])
+      stops = λ levels_left. rw (terminals_split text s.before token [])
           (form_stops_all deepest_level (terminals text tokens) left h (terminals text s.before) (terminal_at text token)
-          (terminals text s.after) s.terminals_are s.here room);
+          (terminals text s.after) s.terminals_are s.here levels_left);
     }
 
 -- a form fault at a token
@@ -108,7 +108,7 @@ form_at_end text tokens are left h none =
       place = refl;
       begins = form_begins deepest_level (terminals text tokens) left h (terminals text tokens) []
           (sym (append-nil (terminals text tokens))) none;
-      no_text = λ room. no_text deepest_level (terminals text tokens) left h room;
+      no_text = λ levels_left. no_text deepest_level (terminals text tokens) left h levels_left;
     })
 
 -- a level too many, at a token
@@ -130,7 +130,7 @@ deep_at_token text tokens are left h token there =
       stops = rw (terminals_split text s.before token [])
           (deep_stops deepest_level (terminals text tokens) left h (terminals text s.before) (terminal_at text token)
           (terminals text s.after) s.terminals_are s.here);
-      room = suc (suc deepest_level);
+      levels_left = suc (suc deepest_level);
       goes_on = rw (terminals_split text s.before token [])
           (deep_goes_on deepest_level (terminals text tokens) left h (terminals text s.before) (terminal_at text token)
           (terminals text s.after) s.terminals_are s.here);

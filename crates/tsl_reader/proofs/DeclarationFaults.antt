@@ -9,41 +9,41 @@ use Rattle.spec_syntax.proofs.ExactDeclarations.{declarations_exact}
 use Rattle.spec_syntax.proofs.FirstFaults as first
 
 -- a form fault stands among the terminals or at their end
-pub form_is_within : (room : ℕ) (xs : List Terminal) (left : ℕ) → declarations room xs ≡ Err (form left) → left ≤ length xs
-form_is_within room = first.form_within (declarations_exact room)
+pub form_is_within : (levels_left : ℕ) (xs : List Terminal) (left : ℕ) → declarations levels_left xs ≡ Err (form left) → left ≤ length xs
+form_is_within levels_left = first.form_within (declarations_exact levels_left)
 
 -- a level too many stands at a terminal
-pub deep_is_within : (room : ℕ) (xs : List Terminal) (left : ℕ) → declarations room xs ≡ Err (deep left) → (0 < left) × (left ≤ length xs)
-deep_is_within room = first.deep_within (declarations_exact room)
+pub deep_is_within : (levels_left : ℕ) (xs : List Terminal) (left : ℕ) → declarations levels_left xs ≡ Err (deep left) → (0 < left) × (left ≤ length xs)
+deep_is_within levels_left = first.deep_within (declarations_exact levels_left)
 
--- no text begins with the terminals up to and with the faulty one, for any room
-pub form_stops_all : (room : ℕ) (xs : List Terminal) (left : ℕ) → declarations room xs ≡ Err (form left) →
+-- no text begins with the terminals up to and with the faulty one, however many levels are left
+pub form_stops_all : (levels_left : ℕ) (xs : List Terminal) (left : ℕ) → declarations levels_left xs ≡ Err (form left) →
     (front : List Terminal) (x : Terminal) (more : List Terminal) →
     xs ≡ front ++ x ∷ more → left ≡ suc (length more) → (other : ℕ) → NoDeclarationsBegin other (front ++ x ∷ [])
-form_stops_all room = first.form_stops (declarations_exact room)
+form_stops_all levels_left = first.form_stops (declarations_exact levels_left)
 
-pub deep_stops : (room : ℕ) (xs : List Terminal) (left : ℕ) → declarations room xs ≡ Err (deep left) →
+pub deep_stops : (levels_left : ℕ) (xs : List Terminal) (left : ℕ) → declarations levels_left xs ≡ Err (deep left) →
     (front : List Terminal) (x : Terminal) (more : List Terminal) →
-    xs ≡ front ++ x ∷ more → left ≡ suc (length more) → NoDeclarationsBegin room (front ++ x ∷ [])
-deep_stops room = first.deep_stops (declarations_exact room)
+    xs ≡ front ++ x ∷ more → left ≡ suc (length more) → NoDeclarationsBegin levels_left (front ++ x ∷ [])
+deep_stops levels_left = first.deep_stops (declarations_exact levels_left)
 
--- terminals that have a form fault are no text, for any room
-pub no_text : (room : ℕ) (xs : List Terminal) (left : ℕ) → declarations room xs ≡ Err (form left) → (other : ℕ) → AreNoDeclarations other xs
-no_text room = first.no_value (declarations_exact room)
+-- terminals that have a form fault are no text, however many levels are left
+pub no_text : (levels_left : ℕ) (xs : List Terminal) (left : ℕ) → declarations levels_left xs ≡ Err (form left) → (other : ℕ) → AreNoDeclarations other xs
+no_text levels_left = first.no_value (declarations_exact levels_left)
 
 -- some text begins with the terminals before a form fault
-pub form_begins : (room : ℕ) (xs : List Terminal) (left : ℕ) → declarations room xs ≡ Err (form left) → (front rest : List Terminal) →
-    xs ≡ front ++ rest → left ≡ length rest → SomeDeclarationsBegin room front
-form_begins room = first.form_begins (declarations_exact room)
+pub form_begins : (levels_left : ℕ) (xs : List Terminal) (left : ℕ) → declarations levels_left xs ≡ Err (form left) → (front rest : List Terminal) →
+    xs ≡ front ++ rest → left ≡ length rest → SomeDeclarationsBegin levels_left front
+form_begins levels_left = first.form_begins (declarations_exact levels_left)
 
 -- and with those before a level too many
-pub deep_begins : (room : ℕ) (xs : List Terminal) (left : ℕ) → declarations room xs ≡ Err (deep left) →
+pub deep_begins : (levels_left : ℕ) (xs : List Terminal) (left : ℕ) → declarations levels_left xs ≡ Err (deep left) →
     (front : List Terminal) (x : Terminal) (more : List Terminal) →
-    xs ≡ front ++ x ∷ more → left ≡ suc (length more) → SomeDeclarationsBegin room front
-deep_begins room = first.deep_begins (declarations_exact room)
+    xs ≡ front ++ x ∷ more → left ≡ suc (length more) → SomeDeclarationsBegin levels_left front
+deep_begins levels_left = first.deep_begins (declarations_exact levels_left)
 
 -- with two levels more, some text begins with those up to and with it
-pub deep_goes_on : (room : ℕ) (xs : List Terminal) (left : ℕ) → declarations room xs ≡ Err (deep left) →
+pub deep_goes_on : (levels_left : ℕ) (xs : List Terminal) (left : ℕ) → declarations levels_left xs ≡ Err (deep left) →
     (front : List Terminal) (x : Terminal) (more : List Terminal) →
-    xs ≡ front ++ x ∷ more → left ≡ suc (length more) → SomeDeclarationsBegin (suc (suc room)) (front ++ x ∷ [])
-deep_goes_on room = first.deep_goes_on (declarations_exact room)
+    xs ≡ front ++ x ∷ more → left ≡ suc (length more) → SomeDeclarationsBegin (suc (suc levels_left)) (front ++ x ∷ [])
+deep_goes_on levels_left = first.deep_goes_on (declarations_exact levels_left)

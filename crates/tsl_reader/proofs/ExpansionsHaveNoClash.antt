@@ -69,10 +69,10 @@ module _ (ds : List Declaration) (well : AreNamedWell ds) where
       let never : true ≡ false = sym same ∙ c.differs in
       cc
 
-pub expansions_have_no_clash : (ds : List Declaration) (room r : ℕ) (xs own ys : List Terminal) (rs : List SectionSyntax) →
-    AreNamedWell ds → AreDeclarations room xs own ds →
+pub expansions_have_no_clash : (ds : List Declaration) (levels_left r : ℕ) (xs own ys : List Terminal) (rs : List SectionSyntax) →
+    AreNamedWell ds → AreDeclarations levels_left xs own ds →
     Expands (as_written (named_in (definitions_in ds))) own ys → AreSections r ys rs →
     HasNoClash alike_in_kind (written_uses rs) × HasNoClash same_arity (written_uses rs)
-expansions_have_no_clash ds room r xs own ys rs well derived to sections =
+expansions_have_no_clash ds levels_left r xs own ys rs well derived to sections =
     let such = names_stand (Passing (occurs_plain (names_in ds))) rs (expanded_names ds well derived r ys rs to sections) in
     (no_kind_clash ds well (written_uses rs) such, no_arity_clash ds well (written_uses rs) such)

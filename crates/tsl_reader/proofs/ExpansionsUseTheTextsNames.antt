@@ -54,13 +54,13 @@ occurring_is_usable all x kind arity h usable =
     subst IsUsable (sym (same_bytes x o.text text.0))
     (each_at (λ (p : Occurrence). IsUsable p.text) all found.0 o (each_unmapped IsUsable (λ p. p.text) all usable) found.2)
 
-pub expanded_uses_are_usable : (ds : List Declaration) (room r : ℕ) (xs own ys : List Terminal) (rs : List SectionSyntax) →
-    AreNamedWell ds → AreDeclarations room xs own ds →
+pub expanded_uses_are_usable : (ds : List Declaration) (levels_left r : ℕ) (xs own ys : List Terminal) (rs : List SectionSyntax) →
+    AreNamedWell ds → AreDeclarations levels_left xs own ds →
     Expands (as_written (named_in (definitions_in ds))) own ys → AreSections r ys rs →
     AllByRecursion IsUsable (free_names xs) → UsesAreUsable rs
-expanded_uses_are_usable ds room r xs own ys rs well derived to sections usable =
+expanded_uses_are_usable ds levels_left r xs own ys rs well derived to sections usable =
     let all = names_in ds in
-    let texts : map (λ o. o.text) all ≡ free_names xs = occurrences_texts (heads_of ds) room xs own ds derived in
+    let texts : map (λ o. o.text) all ≡ free_names xs = occurrences_texts (heads_of ds) levels_left xs own ds derived in
     let there = subst (AllByRecursion IsUsable) (sym texts) usable in
     each_weaker (UseStands (Passing (occurs_plain all))) (λ u. IsUsable u.name.text)
     (λ u stands. occurring_is_usable all u.name.text u.name.kind u.name.arity stands.0 there) (all_uses rs)

@@ -110,8 +110,8 @@ no_form_and_deep text x y (inl h) k =
     let same = one_stop text h.before k.before h.token k.token
     (places h.before h.token h.after k.before k.token k.after (one_list text _ _ h.tokens_are k.tokens_are))
     (record { begins = h.begins; stops = h.stops deepest_level }) (record { begins = k.begins; stops = k.stops }) in
-    h.stops k.room k.goes_on.0 k.goes_on.1
-    (subst (λ ts. IsText k.room (terminals text ts ++ k.goes_on.0) k.goes_on.1)
+    h.stops k.levels_left k.goes_on.0 k.goes_on.1
+    (subst (λ ts. IsText k.levels_left (terminals text ts ++ k.goes_on.0) k.goes_on.1)
     (ap (λ b. b ++ k.token ∷ []) (sym same.0) ∙ ap (λ t. h.before ++ t ∷ []) (sym same.1)) k.goes_on.2)
 no_form_and_deep text x y (inr h) k = no_stop text h.tokens k.before k.token k.after h.tokens_are k.tokens_are h.begins k.stops
 

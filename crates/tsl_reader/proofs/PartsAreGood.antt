@@ -15,10 +15,10 @@ use Rattle.tsl_reader.proofs.Fits.{ListGood, list_good}
 use Rattle.tsl_reader.proofs.Results.{IsKnown, sections_known}
 use Rattle.tsl_reader.proofs.UsesAreKnown.{UsesAreUsable, all_known}
 
-pub list_of_part : (room : ℕ) (xs : List Terminal) (ss : List SectionSyntax) → room ≤ deepest_level → AreSections room xs ss →
+pub list_of_part : (levels_left : ℕ) (xs : List Terminal) (ss : List SectionSyntax) → levels_left ≤ deepest_level → AreSections levels_left xs ss →
     UsesAreUsable ss → HasNoClash alike_in_kind (written_uses ss) → HasNoClash same_arity (written_uses ss) →
     (part : Part) → ListGood (names_of ss) (formulas_of_part part ss)
-list_of_part room xs ss few derived usable kinds arities part =
+list_of_part levels_left xs ss few derived usable kinds arities part =
     let known = sections_known (names_of ss) ss (sections_shaped derived few) (all_known ss usable kinds arities) in
     list_good (names_of ss) (formulas_of_part part ss)
     (each_flat_map (IsKnown (names_of ss)) (λ s. s.formulas) (filter (λ s. same_part part s.part) ss)

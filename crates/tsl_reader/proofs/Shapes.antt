@@ -55,28 +55,28 @@ abbrev mutual
   AreShaped no_formulas = Unit {0}
   AreShaped (more_formulas f fs) = IsShaped f × AreShaped fs
 
-bracketed_within : (t : TermSyntax) (d room : ℕ) → d ≤ room → bracketed t d ≤ suc room
-bracketed_within (alone x) d room h = omega (arith, h)
-bracketed_within (applied f no_terms) d room h = omega (arith, h)
-bracketed_within (applied f (more_terms t ts)) d room h = omega (arith, h)
-bracketed_within (grouped_term t) d room h = bracketed_within t d room h
+bracketed_within : (t : TermSyntax) (d levels_left : ℕ) → d ≤ levels_left → bracketed t d ≤ suc levels_left
+bracketed_within (alone x) d levels_left h = omega (arith, h)
+bracketed_within (applied f no_terms) d levels_left h = omega (arith, h)
+bracketed_within (applied f (more_terms t ts)) d levels_left h = omega (arith, h)
+bracketed_within (grouped_term t) d levels_left h = bracketed_within t d levels_left h
 
 mutual
-  term_nests : {room : ℕ} {xs : List Terminal} {t : TermSyntax} → IsTerm room xs t → nesting t ≤ room
+  term_nests : {levels_left : ℕ} {xs : List Terminal} {t : TermSyntax} → IsTerm levels_left xs t → nesting t ≤ levels_left
   term_nests (signal x) = omega arith
   term_nests (constant c) = omega arith
   term_nests (application f h) = arguments_nest h
   term_nests (brackets h) = omega (arith, term_nests h)
 
-  arguments_nest : {room : ℕ} {xs : List Terminal} {ts : List TermSyntax} → AreArguments room xs ts →
-      nesting_of_arguments (listed_terms ts) ≤ room
+  arguments_nest : {levels_left : ℕ} {xs : List Terminal} {ts : List TermSyntax} → AreArguments levels_left xs ts →
+      nesting_of_arguments (listed_terms ts) ≤ levels_left
   arguments_nest (one_argument h) = omega (arith, argument_nests h)
   arguments_nest (more_arguments h k) = omega (arith, argument_nests h, arguments_nest k)
 
-  argument_nests : {room : ℕ} {xs : List Terminal} {t : TermSyntax} → IsArgument room xs t → bracketed t (nesting t) ≤ room
+  argument_nests : {levels_left : ℕ} {xs : List Terminal} {t : TermSyntax} → IsArgument levels_left xs t → bracketed t (nesting t) ≤ levels_left
   argument_nests (signal_argument x) = omega arith
   argument_nests (constant_argument c) = omega arith
-  argument_nests (brackets_argument {room = room} {t = t} h) = bracketed_within t (nesting t) room (term_nests h)
+  argument_nests (brackets_argument {levels_left = levels_left} {t = t} h) = bracketed_within t (nesting t) levels_left (term_nests h)
 
 join_shaped : (op : ManyOperator) (a : FormulaSyntax) (fs : List FormulaSyntax) → IsShaped a → AreShaped (listed_formulas fs) →
     IsShaped (join op a fs)
@@ -84,39 +84,39 @@ join_shaped op a [] h k = h
 join_shaped op a (g ∷ gs) h k = (tt, (h, k))
 
 mutual
-  formula_shaped : {room : ℕ} {xs : List Terminal} {f : FormulaSyntax} → IsFormula room xs f → room ≤ deepest_level → IsShaped f
+  formula_shaped : {levels_left : ℕ} {xs : List Terminal} {f : FormulaSyntax} → IsFormula levels_left xs f → levels_left ≤ deepest_level → IsShaped f
   formula_shaped (temporal op x is h k) few = (prefix_shaped h few, prefix_shaped k few)
   formula_shaped (chained h) few = iff_shaped h few
 
-  iff_shaped : {room : ℕ} {xs : List Terminal} {f : FormulaSyntax} → IsIff room xs f → room ≤ deepest_level → IsShaped f
+  iff_shaped : {levels_left : ℕ} {xs : List Terminal} {f : FormulaSyntax} → IsIff levels_left xs f → levels_left ≤ deepest_level → IsShaped f
   iff_shaped (no_iff h) few = imp_shaped h few
   iff_shaped (iff h k) few = (imp_shaped h few, iff_shaped k (omega (arith, few)))
 
-  imp_shaped : {room : ℕ} {xs : List Terminal} {f : FormulaSyntax} → IsImp room xs f → room ≤ deepest_level → IsShaped f
+  imp_shaped : {levels_left : ℕ} {xs : List Terminal} {f : FormulaSyntax} → IsImp levels_left xs f → levels_left ≤ deepest_level → IsShaped f
   imp_shaped (no_imp h) few = or_shaped h few
   imp_shaped (imp h k) few = (or_shaped h few, imp_shaped k (omega (arith, few)))
 
-  or_shaped : {room : ℕ} {xs : List Terminal} {f : FormulaSyntax} → IsOr room xs f → room ≤ deepest_level → IsShaped f
+  or_shaped : {levels_left : ℕ} {xs : List Terminal} {f : FormulaSyntax} → IsOr levels_left xs f → levels_left ≤ deepest_level → IsShaped f
   or_shaped (disjunction {a = a} {fs = fs} h k) few = join_shaped Disjunction a fs (and_shaped h few) (disjuncts_shaped k few)
 
-  disjuncts_shaped : {room : ℕ} {xs : List Terminal} {fs : List FormulaSyntax} → AreDisjuncts room xs fs → room ≤ deepest_level →
+  disjuncts_shaped : {levels_left : ℕ} {xs : List Terminal} {fs : List FormulaSyntax} → AreDisjuncts levels_left xs fs → levels_left ≤ deepest_level →
       AreShaped (listed_formulas fs)
   disjuncts_shaped no_disjunct few = tt
   disjuncts_shaped (more_disjuncts h k) few = (and_shaped h few, disjuncts_shaped k few)
 
-  and_shaped : {room : ℕ} {xs : List Terminal} {f : FormulaSyntax} → IsAnd room xs f → room ≤ deepest_level → IsShaped f
+  and_shaped : {levels_left : ℕ} {xs : List Terminal} {f : FormulaSyntax} → IsAnd levels_left xs f → levels_left ≤ deepest_level → IsShaped f
   and_shaped (conjunction {a = a} {fs = fs} h k) few = join_shaped Conjunction a fs (prefix_shaped h few) (conjuncts_shaped k few)
 
-  conjuncts_shaped : {room : ℕ} {xs : List Terminal} {fs : List FormulaSyntax} → AreConjuncts room xs fs → room ≤ deepest_level →
+  conjuncts_shaped : {levels_left : ℕ} {xs : List Terminal} {fs : List FormulaSyntax} → AreConjuncts levels_left xs fs → levels_left ≤ deepest_level →
       AreShaped (listed_formulas fs)
   conjuncts_shaped no_conjunct few = tt
   conjuncts_shaped (more_conjuncts h k) few = (prefix_shaped h few, conjuncts_shaped k few)
 
-  prefix_shaped : {room : ℕ} {xs : List Terminal} {f : FormulaSyntax} → IsPrefix room xs f → room ≤ deepest_level → IsShaped f
+  prefix_shaped : {levels_left : ℕ} {xs : List Terminal} {f : FormulaSyntax} → IsPrefix levels_left xs f → levels_left ≤ deepest_level → IsShaped f
   prefix_shaped (prefix op x is h) few = prefix_shaped h (omega (arith, few))
   prefix_shaped (atom h) few = atom_shaped h few
 
-  atom_shaped : {room : ℕ} {xs : List Terminal} {f : FormulaSyntax} → IsAtom room xs f → room ≤ deepest_level → IsShaped f
+  atom_shaped : {levels_left : ℕ} {xs : List Terminal} {f : FormulaSyntax} → IsAtom levels_left xs f → levels_left ≤ deepest_level → IsShaped f
   atom_shaped true_atom few = tt
   atom_shaped false_atom few = tt
   atom_shaped (brackets_atom h) few = formula_shaped h (omega (arith, few))
@@ -125,18 +125,18 @@ mutual
   atom_shaped (no_argument p) few = omega arith
   atom_shaped (test p h) few = omega (arith, arguments_nest h, few)
 
-items_shaped : {room : ℕ} {xs : List Terminal} {fs : List FormulaSyntax} → AreItems room xs fs → room ≤ deepest_level →
+items_shaped : {levels_left : ℕ} {xs : List Terminal} {fs : List FormulaSyntax} → AreItems levels_left xs fs → levels_left ≤ deepest_level →
     AllByRecursion IsShaped fs
 items_shaped nothing few = tt
 items_shaped (last_item h) few = (formula_shaped h few, tt)
 items_shaped (item h k) few = (formula_shaped h few, items_shaped k few)
 
-section_shaped : {room : ℕ} {xs : List Terminal} {s : SectionSyntax} → IsSection room xs s → room ≤ deepest_level →
+section_shaped : {levels_left : ℕ} {xs : List Terminal} {s : SectionSyntax} → IsSection levels_left xs s → levels_left ≤ deepest_level →
     AllByRecursion IsShaped s.formulas
 section_shaped (braces h k) few = items_shaped k few
 
 -- the formulas of a text have this shape
-pub sections_shaped : {room : ℕ} {xs : List Terminal} {ss : List SectionSyntax} → AreSections room xs ss → room ≤ deepest_level →
+pub sections_shaped : {levels_left : ℕ} {xs : List Terminal} {ss : List SectionSyntax} → AreSections levels_left xs ss → levels_left ≤ deepest_level →
     AllByRecursion (λ s. AllByRecursion IsShaped s.formulas) ss
 sections_shaped no_section few = tt
 sections_shaped (section h k) few = (section_shaped h few, sections_shaped k few)

@@ -46,19 +46,19 @@ closed : (xs : List Terminal) (x : Terminal) → free_texts (x ∷ []) ≡ [] �
 closed xs x h = free_texts_append xs (x ∷ []) ∙ ap (λ ts. free_texts xs ++ ts) h ∙ append-nil (free_texts xs)
 
 mutual
-  term_texts : {room : ℕ} {xs : List Terminal} {t : TermSyntax} → IsTerm room xs t → map text_of (term_uses t) ≡ free_texts xs
+  term_texts : {levels_left : ℕ} {xs : List Terminal} {t : TermSyntax} → IsTerm levels_left xs t → map text_of (term_uses t) ≡ free_texts xs
   term_texts (signal x) = refl
   term_texts (constant c) = refl
   term_texts (application f h) = ap (λ ts. f ∷ ts) (arguments_texts h)
   term_texts (brackets {xs = xs} h) = term_texts h ∙ sym (closed xs (mark CloseRound) refl)
 
-  arguments_texts : {room : ℕ} {xs : List Terminal} {ts : List TermSyntax} → AreArguments room xs ts →
+  arguments_texts : {levels_left : ℕ} {xs : List Terminal} {ts : List TermSyntax} → AreArguments levels_left xs ts →
       map text_of (terms_uses (listed_terms ts)) ≡ free_texts xs
   arguments_texts (one_argument {t = t} h) = ap (map text_of) (append-nil (term_uses t)) ∙ argument_texts h
   arguments_texts (more_arguments {xs = xs} {ys = ys} {t = t} {ts = ts} h k) =
       joined (term_uses t) (terms_uses (listed_terms ts)) xs ys (argument_texts h) (arguments_texts k)
 
-  argument_texts : {room : ℕ} {xs : List Terminal} {t : TermSyntax} → IsArgument room xs t → map text_of (term_uses t) ≡ free_texts xs
+  argument_texts : {levels_left : ℕ} {xs : List Terminal} {t : TermSyntax} → IsArgument levels_left xs t → map text_of (term_uses t) ≡ free_texts xs
   argument_texts (signal_argument x) = refl
   argument_texts (constant_argument c) = refl
   argument_texts (brackets_argument {xs = xs} h) = term_texts h ∙ sym (closed xs (mark CloseRound) refl)
@@ -81,44 +81,44 @@ join_uses op a [] = sym (append-nil (uses a))
 join_uses op a (g ∷ gs) = refl
 
 mutual
-  formula_texts : {room : ℕ} {xs : List Terminal} {f : FormulaSyntax} → IsFormula room xs f → map text_of (uses f) ≡ free_texts xs
+  formula_texts : {levels_left : ℕ} {xs : List Terminal} {f : FormulaSyntax} → IsFormula levels_left xs f → map text_of (uses f) ≡ free_texts xs
   formula_texts (temporal {xs = xs} {ys = ys} {a = a} {b = b} op x is h k) =
       joined (uses a) (uses b) xs (x ∷ ys) (prefix_texts h) (prefix_texts k ∙ (sym (temporal_is_no_name x op ys is)))
   formula_texts (chained h) = iff_texts h
 
-  iff_texts : {room : ℕ} {xs : List Terminal} {f : FormulaSyntax} → IsIff room xs f → map text_of (uses f) ≡ free_texts xs
+  iff_texts : {levels_left : ℕ} {xs : List Terminal} {f : FormulaSyntax} → IsIff levels_left xs f → map text_of (uses f) ≡ free_texts xs
   iff_texts (no_iff h) = imp_texts h
   iff_texts (iff {xs = xs} {ys = ys} {a = a} {b = b} h k) = joined (uses a) (uses b) xs (mark BothArrow ∷ ys) (imp_texts h) (iff_texts k)
 
-  imp_texts : {room : ℕ} {xs : List Terminal} {f : FormulaSyntax} → IsImp room xs f → map text_of (uses f) ≡ free_texts xs
+  imp_texts : {levels_left : ℕ} {xs : List Terminal} {f : FormulaSyntax} → IsImp levels_left xs f → map text_of (uses f) ≡ free_texts xs
   imp_texts (no_imp h) = or_texts h
   imp_texts (imp {xs = xs} {ys = ys} {a = a} {b = b} h k) = joined (uses a) (uses b) xs (mark Arrow ∷ ys) (or_texts h) (imp_texts k)
 
-  or_texts : {room : ℕ} {xs : List Terminal} {f : FormulaSyntax} → IsOr room xs f → map text_of (uses f) ≡ free_texts xs
+  or_texts : {levels_left : ℕ} {xs : List Terminal} {f : FormulaSyntax} → IsOr levels_left xs f → map text_of (uses f) ≡ free_texts xs
   or_texts (disjunction {xs = xs} {ys = ys} {a = a} {fs = fs} h k) =
       ap (map text_of) (join_uses Disjunction a fs) ∙ joined (uses a) (members_uses (listed_formulas fs)) xs ys (and_texts h) (disjuncts_texts k)
 
-  disjuncts_texts : {room : ℕ} {xs : List Terminal} {fs : List FormulaSyntax} → AreDisjuncts room xs fs →
+  disjuncts_texts : {levels_left : ℕ} {xs : List Terminal} {fs : List FormulaSyntax} → AreDisjuncts levels_left xs fs →
       map text_of (members_uses (listed_formulas fs)) ≡ free_texts xs
   disjuncts_texts no_disjunct = refl
   disjuncts_texts (more_disjuncts {xs = xs} {ys = ys} {a = a} {fs = fs} h k) =
       joined (uses a) (members_uses (listed_formulas fs)) xs ys (and_texts h) (disjuncts_texts k)
 
-  and_texts : {room : ℕ} {xs : List Terminal} {f : FormulaSyntax} → IsAnd room xs f → map text_of (uses f) ≡ free_texts xs
+  and_texts : {levels_left : ℕ} {xs : List Terminal} {f : FormulaSyntax} → IsAnd levels_left xs f → map text_of (uses f) ≡ free_texts xs
   and_texts (conjunction {xs = xs} {ys = ys} {a = a} {fs = fs} h k) =
       ap (map text_of) (join_uses Conjunction a fs) ∙ joined (uses a) (members_uses (listed_formulas fs)) xs ys (prefix_texts h) (conjuncts_texts k)
 
-  conjuncts_texts : {room : ℕ} {xs : List Terminal} {fs : List FormulaSyntax} → AreConjuncts room xs fs →
+  conjuncts_texts : {levels_left : ℕ} {xs : List Terminal} {fs : List FormulaSyntax} → AreConjuncts levels_left xs fs →
       map text_of (members_uses (listed_formulas fs)) ≡ free_texts xs
   conjuncts_texts no_conjunct = refl
   conjuncts_texts (more_conjuncts {xs = xs} {ys = ys} {a = a} {fs = fs} h k) =
       joined (uses a) (members_uses (listed_formulas fs)) xs ys (prefix_texts h) (conjuncts_texts k)
 
-  prefix_texts : {room : ℕ} {xs : List Terminal} {f : FormulaSyntax} → IsPrefix room xs f → map text_of (uses f) ≡ free_texts xs
+  prefix_texts : {levels_left : ℕ} {xs : List Terminal} {f : FormulaSyntax} → IsPrefix levels_left xs f → map text_of (uses f) ≡ free_texts xs
   prefix_texts (prefix {xs = xs} op x is h) = prefix_texts h ∙ (sym (unary_is_no_name x op xs is))
   prefix_texts (atom h) = atom_texts h
 
-  atom_texts : {room : ℕ} {xs : List Terminal} {f : FormulaSyntax} → IsAtom room xs f → map text_of (uses f) ≡ free_texts xs
+  atom_texts : {levels_left : ℕ} {xs : List Terminal} {f : FormulaSyntax} → IsAtom levels_left xs f → map text_of (uses f) ≡ free_texts xs
   atom_texts true_atom = refl
   atom_texts false_atom = refl
   atom_texts (brackets_atom {xs = xs} h) = formula_texts h ∙ (sym (closed xs (mark CloseRound) refl))
@@ -127,7 +127,7 @@ mutual
   atom_texts (no_argument p) = refl
   atom_texts (test p h) = (ap (λ ts. p ∷ ts) (arguments_texts h))
 
-items_texts : {room : ℕ} {xs : List Terminal} {fs : List FormulaSyntax} → AreItems room xs fs →
+items_texts : {levels_left : ℕ} {xs : List Terminal} {fs : List FormulaSyntax} → AreItems levels_left xs fs →
     map text_of (flat_map uses fs) ≡ free_texts xs
 items_texts nothing = refl
 items_texts (last_item {xs = xs} {f = f} h) = ap (map text_of) (append-nil (uses f)) ∙ formula_texts h
@@ -142,18 +142,18 @@ head_has_no_name initially_guarantee = refl
 head_has_no_name always_assume = refl
 head_has_no_name always_guarantee = refl
 
-section_texts : {room : ℕ} {xs : List Terminal} {s : SectionSyntax} → IsSection room xs s → map text_of (section_uses s) ≡ free_texts xs
+section_texts : {levels_left : ℕ} {xs : List Terminal} {s : SectionSyntax} → IsSection levels_left xs s → map text_of (section_uses s) ≡ free_texts xs
 section_texts (braces {xs = xs} {ys = ys} h k) =
     items_texts k ∙ (sym (free_texts_append xs (mark OpenBrace ∷ (ys ++ mark CloseBrace ∷ []))
     ∙ ap (λ ts. ts ++ free_texts (ys ++ mark CloseBrace ∷ [])) (head_has_no_name h) ∙ closed ys (mark CloseBrace) refl))
 
-pub sections_texts : {room : ℕ} {xs : List Terminal} {ss : List SectionSyntax} → AreSections room xs ss →
+pub sections_texts : {levels_left : ℕ} {xs : List Terminal} {ss : List SectionSyntax} → AreSections levels_left xs ss →
     map text_of (all_uses ss) ≡ free_texts xs
 sections_texts no_section = refl
 sections_texts (section {xs = xs} {ys = ys} {s = s} {ss = ss} h k) =
     joined (section_uses s) (all_uses ss) xs ys (section_texts h) (sections_texts k)
 
 -- the names of a text's terminals are those of its uses, in order
-pub written_texts : (room : ℕ) (xs : List Terminal) (ss : List SectionSyntax) → AreSections room xs ss →
+pub written_texts : (levels_left : ℕ) (xs : List Terminal) (ss : List SectionSyntax) → AreSections levels_left xs ss →
     map (λ n. n.text) (written_uses ss) ≡ free_texts xs
-written_texts room xs ss h = map-map (λ n. n.text) (λ u. u.name) (all_uses ss) ∙ sections_texts h
+written_texts levels_left xs ss h = map-map (λ n. n.text) (λ u. u.name) (all_uses ss) ∙ sections_texts h

@@ -72,7 +72,7 @@ pub record HasWrongToken (text : List ℕ) (at : ℕ) : Type 0 where
   pub tokens_are : AreTokens text (before ++ token ∷ after)
   pub place : at ≡ token.start
   pub begins : SomeDeclarationsBegin deepest_level (terminals text before)
-  pub stops : (room : ℕ) → NoDeclarationsBegin room (terminals text (before ++ token ∷ []))
+  pub stops : (levels_left : ℕ) → NoDeclarationsBegin levels_left (terminals text (before ++ token ∷ []))
 
 -- The text ends at this offset. Some text with levels up to 200 begins with its tokens, and they are none with any number of
 -- levels.
@@ -81,7 +81,7 @@ pub record EndsTooEarly (text : List ℕ) (at : ℕ) : Type 0 where
   pub tokens_are : AreTokens text tokens
   pub place : at ≡ length text
   pub begins : SomeDeclarationsBegin deepest_level (terminals text tokens)
-  pub no_text : (room : ℕ) → AreNoDeclarations room (terminals text tokens)
+  pub no_text : (levels_left : ℕ) → AreNoDeclarations levels_left (terminals text tokens)
 
 -- the first token, or the end, at which the text stops to be one of the grammar without a bound on levels
 abbrev pub HasFormFault : List ℕ → ℕ → Type 0
@@ -97,8 +97,8 @@ pub record HasDeepFault (text : List ℕ) (at : ℕ) : Type 0 where
   pub place : at ≡ token.start
   pub begins : SomeDeclarationsBegin deepest_level (terminals text before)
   pub stops : NoDeclarationsBegin deepest_level (terminals text (before ++ token ∷ []))
-  pub room : ℕ
-  pub goes_on : SomeDeclarationsBegin room (terminals text (before ++ token ∷ []))
+  pub levels_left : ℕ
+  pub goes_on : SomeDeclarationsBegin levels_left (terminals text (before ++ token ∷ []))
 
 -- whether a token is a name that is no reserved word
 abbrev pub is_free : Terminal → Bool

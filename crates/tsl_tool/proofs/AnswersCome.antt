@@ -4,12 +4,12 @@ use Rattle.std.specs.Prelude.{Option, Some, None}
 use Rattle.command_words.specs.declared.task.SynthSizes.{SynthSizes}
 use Rattle.command_words.specs.declared.task.Task.{Task}
 use Rattle.command_words.specs.declared.task.Task.TheVariants.{Synth, Check, Run, Prove, Recheck, Gen, Circuit, Automaton, Accepts}
-use Rattle.command_words.specs.Commands.{AsksFor}
+use Rattle.command_words.specs.Commands.{ParsesTo}
 use Rattle.command_words.proofs.OneTask.{asking_is_taken, one_task}
 use Rattle.program_check.specs.declared.verdict.Limit.{Limit}
 use Rattle.refinement_loop.specs.Questions.{HasSolution}
 use Rattle.refinement_loop.specs.Outcomes.{IsLargeFor}
-use Rattle.tsl_io.specs.Effects.{Effect, HasFailed, AreTold}
+use Rattle.tsl_io.specs.Effects.{Effect, HasFailed, ContentsAre}
 use Rattle.tsl_terms.specs.SpecTree.{SpecTree}
 use Rattle.tsl_reader.specs.Spells.{Spells}
 use Rattle.tool_replies.specs.declared.status.Status.{Status}
@@ -49,16 +49,16 @@ task_answers once Accepts bytes reply few can outcome = accepts_answers bytes re
 -- ---- how the run ends
 
 -- where nothing fails and no more bytes are told than are read, the status is that of an outcome of the task on them
-module _ (words : List (List ℕ)) (task : Task) (bytes : List ℕ) (source : Effect) (asks : AsksFor words task)
+module _ (words : List (List ℕ)) (task : Task) (bytes : List ℕ) (source : Effect) (asks : ParsesTo words task)
     (read : CanBeRead (most_bytes task) source bytes) (works : HasFailed source → ⊥) (reply : Reply) where
-  same_bytes : (other : List ℕ) → AreTold source.old other → (most : Option ℕ) → most_bytes task ≡ most →
+  same_bytes : (other : List ℕ) → ContentsAre source.old other → (most : Option ℕ) → most_bytes task ≡ most →
       TaskOutcome task other reply → TaskOutcome task bytes reply
   same_bytes other told None none outcome = on_any_bytes task other bytes reply none outcome
   same_bytes other told (Some most) some outcome =
       subst (λ (b : List ℕ). TaskOutcome task b reply)
       (sym (told bytes (subst (λ (m : Option ℕ). CanBeRead m source bytes) some read).0)) outcome
 
-  not_too_long : (other : List ℕ) (most : ℕ) → AreTold source.old other → most_bytes task ≡ Some most → most < length other → ⊥
+  not_too_long : (other : List ℕ) (most : ℕ) → ContentsAre source.old other → most_bytes task ≡ Some most → most < length other → ⊥
   not_too_long other most told some many =
       let few = subst (λ (m : Option ℕ). CanBeRead m source bytes) some read in
       omega (arith, few.1, many, ap (λ (b : List ℕ). length b) (told bytes few.0))
@@ -76,7 +76,7 @@ module _ (words : List (List ℕ)) (task : Task) (bytes : List ℕ) (source : Ef
       (subst (λ (t : Task). TaskOutcome t h.bytes reply) (one_task words other task asked asks) outcome)
 
 pub ends_of_task : (words : List (List ℕ)) (task : Task) (bytes : List ℕ) (source out err : Effect) (result : Status) →
-    AsksFor words task → CanBeRead (most_bytes task) source bytes → NoneFails source out err → Ends words source out err result →
+    ParsesTo words task → CanBeRead (most_bytes task) source bytes → NoneFails source out err → Ends words source out err result →
     ((reply : Reply) × (result ≡ reply.status) × TaskOutcome task bytes reply) ⊎ (result ≡ Memory)
 ends_of_task words task bytes source out err result asks read none (answered reply h is whole other) =
     inl (reply, is, of_task words task bytes source asks read none.no_read_fault reply h h.outcome)
@@ -89,7 +89,7 @@ ends_of_task words task bytes source out err result asks read none (cut_off repl
 ends_of_task words task bytes source out err result asks read none (out_of_memory is same_out same_err) = inr is
 
 pub answers_come : ReadOnce → (words : List (List ℕ)) (task : Task) (bytes : List ℕ) (source out err : Effect) (result : Status) →
-    AsksFor words task → CanBeRead (most_bytes task) source bytes → CanBeAnswered task bytes → NoneFails source out err →
+    ParsesTo words task → CanBeRead (most_bytes task) source bytes → CanBeAnswered task bytes → NoneFails source out err →
     Ends words source out err result → (is_answer_to task result ≡ true) ⊎ (result ≡ Memory)
 answers_come once words task bytes source out err result asks read can none ends =
     by (ends_of_task words task bytes source out err result asks read none ends)
@@ -104,7 +104,7 @@ answers_come once words task bytes source out err result asks read can none ends
 
 -- where a controller of the size has an annotation within the bound without windows, a program is written, or the budget is spent
 pub program_or_spent : (words : List (List ℕ)) (sizes : SynthSizes) (bytes : List ℕ) (spec : SpecTree) (source out err : Effect)
-    (result : Status) → AsksFor words (Synth sizes) → CanBeRead (most_bytes (Synth sizes)) source bytes → Spells bytes spec →
+    (result : Status) → ParsesTo words (Synth sizes) → CanBeRead (most_bytes (Synth sizes)) source bytes → Spells bytes spec →
     HasSolution spec [] sizes.states (bound_asked sizes.bound) → ((limit : Limit) → IsLargeFor spec [] sizes.states (bound_asked sizes.bound) limit → ⊥) →
     NoneFails source out err → Ends words source out err result → ((result ≡ Done) ⊎ (result ≡ Spent)) ⊎ (result ≡ Memory)
 program_or_spent words sizes bytes spec source out err result asks read spells solution within none ends =

@@ -11,11 +11,11 @@ use Rattle.tool_replies.specs.declared.status.Status.{Status}
 use Rattle.tool_replies.specs.declared.status.Status.TheVariants.{Done, No, Usage, Reading, Large, Spent, ReadFault, WriteFault, Memory}
 use Rattle.command_words.specs.declared.task.Task.{Task}
 use Rattle.command_words.specs.declared.task.Task.TheVariants.{Synth, Check, Run, Prove, Recheck, Gen, Circuit, Automaton, Accepts}
-use Rattle.command_words.specs.Commands.{AsksFor, are_taken}
+use Rattle.command_words.specs.Commands.{ParsesTo, are_taken}
 use Rattle.tool_replies.specs.declared.reply.Reply.{Reply}
 use Rattle.tsl_tool.specs.Causes.{Causes, Rises}
 use Rattle.tsl_tool.specs.Tasks.{AreFewBytes, most_bytes}
-use Rattle.tsl_io.specs.Effects.{Effect, HasFailed, NeverFailed, IsUntouched, IsWhole, IsCutOff, AreTold}
+use Rattle.tsl_io.specs.Effects.{Effect, HasFailed, NeverFailed, IsUntouched, IsWhole, IsCutOff, ContentsAre}
 use Rattle.tsl_tool.specs.internal.Sending.{IsSent, sent_whole, sent_in_part}
 use Rattle.tsl_tool.specs.Ends.{sink_of, other_sink}
 use Rattle.tsl_tool.specs.Ends.{CountsReads, IsReplyTo, Ends, answered, cut_off, out_of_memory, HandedOn}
@@ -40,7 +40,7 @@ module _ {E : Type 0} (words : List (List ℕ)) (source : Effect) (r : Result Re
       })
 
   -- where a read failed
-  pub fault_reply_to : (task : Task) → AsksFor words task → most_bytes task ≢ None → HasFailed source →
+  pub fault_reply_to : (task : Task) → ParsesTo words task → most_bytes task ≢ None → HasFailed source →
       IfOk r (λ reply. reply ≡ fault_reply Read) →
       IfOk r (IsReplyTo words source)
   fault_reply_to task asks reads fault = IfOk-weaker r _ _ (λ reply is.
@@ -52,7 +52,7 @@ module _ {E : Type 0} (words : List (List ℕ)) (source : Effect) (r : Result Re
       })
 
   -- where there are too many bytes
-  pub large_reply : (task : Task) (most : ℕ) → AsksFor words task → most_bytes task ≡ Some most → NeverFailed source →
+  pub large_reply : (task : Task) (most : ℕ) → ParsesTo words task → most_bytes task ≡ Some most → NeverFailed source →
       TakesFirst (most + 1) source.old source.new → IfOk r (λ reply. reply ≡ fault_reply (PastLimit Text most)) →
       IfOk r (IsReplyTo words source)
   large_reply task most asks reads count takes = IfOk-weaker r _ _ (λ reply is.
@@ -76,7 +76,7 @@ counted Memory source comes count = count
 
 -- the reply to bytes that were read
 pub bytes_reply : {E : Type 0} (words : List (List ℕ)) (source : Effect) (r : Result Reply E) (task : Task) (most : ℕ)
-    (text lent : List ℕ) → AsksFor words task → most_bytes task ≡ Some most → NeverFailed source →
+    (text lent : List ℕ) → ParsesTo words task → most_bytes task ≡ Some most → NeverFailed source →
     WhereTold source.old (λ bytes. text ≡ bytes) → length text ≤ most → lent ≡ text → IfOk r (TaskOutcome task lent) →
     IfOk r (IsReplyTo words source)
 bytes_reply words source r task most text lent asks reads count told few same = IfOk-weaker r _ _ (λ reply outcome.
@@ -101,7 +101,7 @@ on_any_bytes Accepts bytes other reply reads outcome = cc
 on_any_bytes (Gen n) bytes other reply reads outcome = outcome
 
 pub unread_reply : {E : Type 0} (words : List (List ℕ)) (source : Effect) (r : Result Reply E) (task : Task) (lent : List ℕ) →
-    AsksFor words task → most_bytes task ≡ None → NeverFailed source → IfOk r (TaskOutcome task lent) → IfOk r (IsReplyTo words source)
+    ParsesTo words task → most_bytes task ≡ None → NeverFailed source → IfOk r (TaskOutcome task lent) → IfOk r (IsReplyTo words source)
 unread_reply words source r task lent asks reads count = IfOk-weaker r _ _ (λ reply outcome.
     let bytes = some_bytes source.old in
     let on_bytes_told : TaskOutcome task bytes.0 reply = on_any_bytes task lent bytes.0 reply reads outcome in record {
@@ -138,7 +138,7 @@ module _ (words : List (List ℕ)) (source out err : Effect) (reply : Reply) (re
 
   -- and what it promises
   pub out_promises : IsReplyTo words source reply → IsSent reply out result → is_answer result ≡ true →
-      (task : Task) × AsksFor words task × (bytes : List ℕ) × (text : List ℕ) × AreTold source.old bytes ×
+      (task : Task) × ParsesTo words task × (bytes : List ℕ) × (text : List ℕ) × ContentsAre source.old bytes ×
       Promise task result bytes text × (out.new ≡ with_added text out.old)
   out_promises h (sent_whole is whole) answer =
       let asked = answer_to_task words h.bytes reply h.outcome (sym (ap is_answer is) ∙ answer) in (

@@ -1,6 +1,6 @@
 -- Which status and which text the reply of an outcome has, and what it promises.
 use Rattle.std.proofs.Common.{◌≡◌, ◌≢◌, ℕ, true, false, List, [], refl, ap, sym, ◌∙◌, subst}
-use Rattle.command_words.specs.Commands.{AsksFor, are_taken}
+use Rattle.command_words.specs.Commands.{ParsesTo, are_taken}
 use Rattle.command_words.proofs.OneTask.{asking_is_taken, one_task}
 use Rattle.tsl_report.specs.declared.fault.Fault.TheVariants.{Usage as WrongWords, Read, Parts, Large as PastLimit}
 use Rattle.tsl_report.specs.declared.fault.Head.TheVariants.{Lrat}
@@ -57,7 +57,7 @@ usage_of_words words bytes reply (on_bytes task asks few outcome) h =
     let e : false ≡ true = sym (ap comes_of_bytes h) ∙ task_comes task bytes reply outcome in cc
 
 -- and such words lead to nothing else
-refused_or_asked : (words : List (List ℕ)) (task : Task) → AsksFor words task → are_taken words ≡ false → ⊥
+refused_or_asked : (words : List (List ℕ)) (task : Task) → ParsesTo words task → are_taken words ≡ false → ⊥
 refused_or_asked words task asks refused = let e : true ≡ false = sym (asking_is_taken words task asks) ∙ refused in cc
 
 pub words_to_usage : (words : List (List ℕ)) (bytes : List ℕ) (reply : Reply) → Outcome words bytes reply → are_taken words ≡ false →
@@ -69,7 +69,7 @@ words_to_usage words bytes reply (on_bytes task asks few outcome) h = absurd (re
 
 -- an answer comes of words that ask for something
 pub answer_to_task : (words : List (List ℕ)) (bytes : List ℕ) (reply : Reply) → Outcome words bytes reply →
-    is_answer reply.status ≡ true → (task : Task) × AsksFor words task
+    is_answer reply.status ≡ true → (task : Task) × ParsesTo words task
 answer_to_task words bytes reply (usage none is) h = let e : false ≡ true = sym (ap is_answer (status_of is)) ∙ h in cc
 answer_to_task words bytes reply (source_failed task asks reads is) h = (task, asks)
 answer_to_task words bytes reply (too_long task most asks is_most many is) h = (task, asks)
@@ -130,7 +130,7 @@ task_keeps Automaton bytes reply outcome = automaton_keeps bytes reply outcome
 task_keeps Accepts bytes reply outcome = accepts_keeps bytes reply outcome
 
 -- the reply of an outcome keeps the promise of the task that the words ask for
-pub keeps_promise : (words : List (List ℕ)) (task : Task) (bytes : List ℕ) (reply : Reply) → AsksFor words task →
+pub keeps_promise : (words : List (List ℕ)) (task : Task) (bytes : List ℕ) (reply : Reply) → ParsesTo words task →
     Outcome words bytes reply → Promise task reply.status bytes reply.text
 keeps_promise words task bytes reply asked (usage none is) = fault_keeps task WrongWords bytes reply is
 keeps_promise words task bytes reply asked (source_failed other asks reads is) = fault_keeps task Read bytes reply is

@@ -3,13 +3,13 @@ use Rattle.std.proofs.Common.{◌≡◌, ℕ, true, false, List, [], ◌∷◌, 
 use Rattle.std.specs.Prelude.{None}
 use Rattle.command_words.specs.declared.task.Task.{Task}
 use Rattle.command_words.specs.declared.task.Task.TheVariants.{Synth, Check, Run, Prove, Recheck, Gen, Circuit, Automaton, Accepts}
-use Rattle.command_words.specs.Commands.{AsksFor}
+use Rattle.command_words.specs.Commands.{ParsesTo}
 use Rattle.command_words.proofs.OneTask.{asking_is_taken, one_task}
 use Rattle.tsl_tool.specs.Tasks.{ReadNothing, most_bytes}
 use Rattle.tsl_tool.specs.internal.TaskRanges.{IsTaskInRange}
 
 -- its numbers lie in their ranges
-pub in_range : (words : List (List ℕ)) (task : Task) → AsksFor words task → IsTaskInRange task
+pub in_range : (words : List (List ℕ)) (task : Task) → ParsesTo words task → IsTaskInRange task
 in_range [] task asks = absurd asks
 in_range (first ∷ rest) (Synth sizes) asks = record {
   has_state = asks.2.states.1;
@@ -39,6 +39,6 @@ in_range (first ∷ rest) Automaton asks = tt
 in_range (first ∷ rest) Accepts asks = tt
 
 -- where nothing is read for the words, it reads nothing
-pub task_reads_nothing : (words : List (List ℕ)) (task : Task) → AsksFor words task → ReadNothing words → most_bytes task ≡ None
+pub task_reads_nothing : (words : List (List ℕ)) (task : Task) → ParsesTo words task → ReadNothing words → most_bytes task ≡ None
 task_reads_nothing words task asks (inl refused) = let e : true ≡ false = sym (asking_is_taken words task asks) ∙ refused in cc
 task_reads_nothing words task asks (inr other) = ap most_bytes (one_task words task other.0 asks other.1) ∙ other.2

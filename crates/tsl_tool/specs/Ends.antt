@@ -1,6 +1,6 @@
 -- How a run ends: its status, whether the source failed, and what stands in the sinks.
 use Rattle.std.specs.Prelude.{◌≡◌, ℕ, List, cond}
-use Rattle.tsl_io.specs.Effects.{Effect, HasFailed, NeverFailed, IsUntouched, IsWhole, IsCutOff, AreTold}
+use Rattle.tsl_io.specs.Effects.{Effect, HasFailed, NeverFailed, IsUntouched, IsWhole, IsCutOff, ContentsAre}
 use Rattle.tool_replies.specs.declared.status.Status.{Status}
 use Rattle.tool_replies.specs.declared.status.Status.TheVariants.{Done, No, Usage, Reading, Large, Spent, ReadFault, WriteFault, Memory}
 use Rattle.tool_replies.specs.declared.reply.Reply.{Reply}
@@ -23,7 +23,7 @@ CountsReads _ source = NeverFailed source
 -- where it tells nothing.
 pub record IsReplyTo (words : List (List ℕ)) (source : Effect) (reply : Reply) : Type 0 where
   pub bytes : List ℕ
-  pub told : AreTold source.old bytes
+  pub told : ContentsAre source.old bytes
   pub outcome : Outcome words bytes reply
   pub count : CountsReads reply.status source
 

@@ -2,7 +2,7 @@
 use Rattle.std.specs.Prelude.{◌≡◌, ◌≢◌, ℕ, ◌<◌, false, List, length, Some, None}
 use Rattle.command_words.specs.declared.task.Task.{Task}
 use Rattle.command_words.specs.declared.task.Task.TheVariants.{Synth, Check, Run, Prove, Recheck, Gen, Circuit, Automaton, Accepts}
-use Rattle.command_words.specs.Commands.{AsksFor, are_taken}
+use Rattle.command_words.specs.Commands.{ParsesTo, are_taken}
 use Rattle.tsl_report.specs.declared.fault.LimitName.TheVariants.{Text}
 use Rattle.tsl_report.specs.declared.fault.Fault.TheVariants.{Usage, Read, Large}
 use Rattle.tool_replies.specs.declared.reply.Reply.{Reply}
@@ -34,10 +34,10 @@ pub data Outcome (words : List (List ℕ)) (bytes : List ℕ) (reply : Reply) : 
   -- the words are refused
   usage : are_taken words ≡ false → reply ≡ fault_reply Usage → Outcome words bytes reply
   -- the source failed, which it may on all bytes, where any are read
-  source_failed : (task : Task) → AsksFor words task → most_bytes task ≢ None → reply ≡ fault_reply Read → Outcome words bytes reply
+  source_failed : (task : Task) → ParsesTo words task → most_bytes task ≢ None → reply ≡ fault_reply Read → Outcome words bytes reply
   -- there are more bytes than may be read
-  too_long : (task : Task) (most : ℕ) → AsksFor words task → most_bytes task ≡ Some most → most < length bytes →
+  too_long : (task : Task) (most : ℕ) → ParsesTo words task → most_bytes task ≡ Some most → most < length bytes →
       reply ≡ fault_reply (Large Text most) → Outcome words bytes reply
   -- what is asked for replies to the bytes
-  on_bytes : (task : Task) → AsksFor words task → AreFewBytes (most_bytes task) bytes → TaskOutcome task bytes reply →
+  on_bytes : (task : Task) → ParsesTo words task → AreFewBytes (most_bytes task) bytes → TaskOutcome task bytes reply →
       Outcome words bytes reply

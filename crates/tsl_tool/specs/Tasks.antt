@@ -5,7 +5,7 @@ use Rattle.command_words.specs.declared.synth_bound.SynthBound.TheVariants.{Numb
 use Rattle.command_words.specs.declared.task.SynthSizes.{SynthSizes}
 use Rattle.command_words.specs.declared.task.Task.{Task}
 use Rattle.command_words.specs.declared.task.Task.TheVariants.{Synth, Check, Run, Prove, Recheck, Gen, Circuit, Automaton, Accepts}
-use Rattle.command_words.specs.Commands.{AsksFor, are_taken}
+use Rattle.command_words.specs.Commands.{ParsesTo, are_taken}
 use Rattle.refinement_loop.specs.declared.outcome.Bound.{Bound}
 use Rattle.refinement_loop.specs.declared.outcome.Bound.TheVariants.{Fixed, Full}
 use Rattle.refinement_loop.specs.declared.outcome.Search.{Search}
@@ -30,7 +30,7 @@ AreFewBytes None bytes = Unit {0}
 
 -- nothing is read for these words: they are refused, or they ask for what reads nothing
 abbrev pub ReadNothing : List (List ℕ) → Type 0
-ReadNothing words = (are_taken words ≡ false) ⊎ ((task : Task) × AsksFor words task × (most_bytes task ≡ None))
+ReadNothing words = (are_taken words ≡ false) ⊎ ((task : Task) × ParsesTo words task × (most_bytes task ≡ None))
 
 -- the bound that a word names
 abbrev pub bound_asked : SynthBound → Bound

@@ -4,7 +4,7 @@ ghost use Rattle.std.specs.Prelude.{◌≡◌, ◌⊎◌, ℕ, List, [], IsTrue}
 ghost use Rattle.command_words.specs.declared.task.SynthSizes.{SynthSizes};
 ghost use Rattle.command_words.specs.declared.task.Task.{Task};
 ghost use Rattle.command_words.specs.declared.task.Task.TheVariants.{Synth};
-ghost use Rattle.command_words.specs.Commands.{AsksFor};
+ghost use Rattle.command_words.specs.Commands.{ParsesTo};
 ghost use Rattle.tsl_terms.specs.SpecTree.{SpecTree};
 ghost use Rattle.tsl_reader.specs.Spells.{Spells};
 ghost use Rattle.program_check.specs.declared.verdict.Limit.{Limit};
@@ -48,11 +48,11 @@ pub fn inputs_get_verdicts()
 /// limit of that question is passed.
 pub fn answers_come()
     ensures answer { (words : List (List ℕ)) (task : Task) (bytes : List ℕ) (source out err : Effect)
-        (result : Status) → AsksFor words task → CanBeRead (most_bytes task) source bytes
+        (result : Status) → ParsesTo words task → CanBeRead (most_bytes task) source bytes
         → CanBeAnswered task bytes → NoneFails source out err → Ends words source out err result
         → IsTrue (is_answer_to task result) ⊎ (result ≡ Status.Memory) }
     ensures found { (words : List (List ℕ)) (sizes : SynthSizes) (bytes : List ℕ) (spec : SpecTree)
-        (source out err : Effect) (result : Status) → AsksFor words (Synth sizes)
+        (source out err : Effect) (result : Status) → ParsesTo words (Synth sizes)
         → CanBeRead (most_bytes (Synth sizes)) source bytes → Spells bytes spec
         → HasSolution spec [] sizes.states (bound_asked sizes.bound)
         → ((limit : Limit) → IsLargeFor spec [] sizes.states (bound_asked sizes.bound) limit → ⊥)

@@ -6,7 +6,7 @@ ghost use Rattle.command_words.specs.declared.task.ProveSizes.{ProveSizes};
 ghost use Rattle.command_words.specs.declared.task.SynthSizes.{SynthSizes};
 ghost use Rattle.command_words.specs.declared.task.Task.{Task};
 ghost use Rattle.command_words.specs.declared.task.Task.TheVariants.{Synth};
-ghost use Rattle.command_words.specs.Commands.{AsksFor};
+ghost use Rattle.command_words.specs.Commands.{ParsesTo};
 ghost use Rattle.generator.specs.Generated.{generated_text};
 ghost use Rattle.cnf_reader.specs.CnfText.{cnf_answer};
 ghost use Rattle.refutation_check.specs.LogText.{log_answer};
@@ -65,7 +65,7 @@ pub fn ends_have_causes()
 
 /// The reply of each outcome keeps the promise of the task that the words ask for.
 pub fn outcomes_keep_their_promise()
-    ensures { (words : List (List ℕ)) (task : Task) (bytes : List ℕ) (reply : Reply) → AsksFor words task →
+    ensures { (words : List (List ℕ)) (task : Task) (bytes : List ℕ) (reply : Reply) → ParsesTo words task →
         Outcome words bytes reply → Promise task reply.status bytes reply.text }
 {}
 

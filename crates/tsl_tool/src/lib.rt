@@ -5,7 +5,7 @@
 //!
 //! 1. `Status` (`tool_replies`): nine ways to end. `Done`, `No` and `Spent` are answers, whose
 //!    text goes to the first sink; the text of every other one goes to the second (`is_answer`).
-//! 2. `Task` (`command_words`): a command with its numbers. `AsksFor words task` says that the words
+//! 2. `Task` (`command_words`): a command with its numbers. `ParsesTo words task` says that the words
 //!    ask for it: the first names its command, and its numbers are those that `clap`'s definition of
 //!    that command gives its arguments; `are_taken` says whether `clap` takes the words at all
 //!    (`specs/Commands.antt` of `command_words`). `most_bytes` is what a task reads at most, and

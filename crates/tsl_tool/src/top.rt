@@ -2,9 +2,9 @@
 
 ghost use Rattle.std.specs.Prelude.{◌≡◌, ◌≢◌, ℕ, List, [], map, string_bytes, IsTrue, IfOk, Some};
 ghost use Rattle.command_words.specs.declared.task.Task.{Task};
-ghost use Rattle.command_words.specs.Commands.{AsksFor};
+ghost use Rattle.command_words.specs.Commands.{ParsesTo};
 ghost use Rattle.tsl_io.specs.Told.{with_added};
-ghost use Rattle.tsl_io.specs.Effects.{effect, AreTold};
+ghost use Rattle.tsl_io.specs.Effects.{effect, ContentsAre};
 ghost use Rattle.tsl_tool.specs.Ends.{IsReplyTo, Ends, HandedOn};
 ghost use Rattle.tsl_tool.specs.Outcome.{TaskOutcome};
 ghost use Rattle.tsl_tool.specs.Promise.{Promise};
@@ -44,7 +44,7 @@ fn reply_to_task<S: Source>(
     task: Task,
     source: &mut S,
 ) -> Result<Reply, NoMemory>
-    requires { AsksFor (map string_bytes words.now) task }
+    requires { ParsesTo (map string_bytes words.now) task }
     ensures replies { IfOk result
         (IsReplyTo (map string_bytes words.now) (effect S.left S.faults source.old source.new)) }
     ensures unread { most_bytes task ≡ None → source.new ≡ source.old }
@@ -111,8 +111,8 @@ pub fn tsl<S: Source, O: Sink, E: Sink>(
         (effect E.written E.faults err.old err.new) result }
 
     // What the answer promises of those bytes and of the text that was written: the headline.
-    ensures promises { IsTrue (is_answer result) → (task : Task) × AsksFor (map string_bytes words.now) task
-        × (bytes : List ℕ) × (text : List ℕ) × AreTold (S.left source.old) bytes
+    ensures promises { IsTrue (is_answer result) → (task : Task) × ParsesTo (map string_bytes words.now) task
+        × (bytes : List ℕ) × (text : List ℕ) × ContentsAre (S.left source.old) bytes
         × Promise task result bytes text
         × (O.written out.new ≡ with_added text (O.written out.old)) }
 

@@ -7,7 +7,7 @@ use Rattle.cnf_reader.specs.declared.places.Word.{Word}
 use Rattle.cnf_reader.specs.declared.told.Told.{Told}
 use Rattle.cnf_reader.specs.CnfText.{CnfAnswer}
 use Rattle.cnf_reader.specs.internal.Told.{Tells}
-use Rattle.cnf_reader.specs.internal.Left.{begins_with_blank, HasFewLines}
+use Rattle.cnf_reader.specs.internal.RestOfText.{begins_with_blank, HasFewLines}
 use Rattle.cnf_reader.specs.internal.Reading.{answer_left}
 
 abbrev pub tells : Told → Tells

@@ -13,7 +13,7 @@ use Rattle.cnf_reader.specs.declared.stages.Stage.{Stage}
 use Rattle.cnf_reader.specs.declared.stages.Stage.TheVariants.{Comments, Header, Numbers, Wrong}
 use Rattle.cnf_reader.specs.CnfText.{CnfAnswer, is_cnf, form_at, too_many_variables, too_many_clauses, header, is_right, with_zeros, numbers_of}
 use Rattle.cnf_reader.specs.internal.Told.{Tells, fresh, ended_clauses}
-use Rattle.cnf_reader.specs.internal.Left.{data_lines_from, words_from, line_rest, later_lines}
+use Rattle.cnf_reader.specs.internal.RestOfText.{data_lines_from, words_from, line_rest, later_lines}
 
 -- ---- words behind the header
 

@@ -32,7 +32,7 @@ use Rattle.program_listing.specs.LineText.{word, named, LineTree, window as wind
 use Rattle.program_listing.specs.LineText.{update_pieces, set_pieces, listed_pieces, placed_pieces, equated_pieces, left_pieces}
 use Rattle.program_listing.specs.LineText.{line_pieces, ended_pieces, is_short, is_shallow, listed_is_within, placed_is_within}
 use Rattle.program_listing.specs.LineText.{left_is_within, line_is_within, node_lines, state_lines}
-use Rattle.program_listing.specs.Listing.{PhraseTree, name_bytes, phrase_brackets, UpdateLine, ListedLine, PlacedLine, WindowLine, NodeLine}
+use Rattle.program_listing.specs.Listing.{SurfaceTermTree, name_bytes, surface_brackets, UpdateLine, ListedLine, PlacedLine, WindowLine, NodeLine}
 use Rattle.program_listing.specs.Listing.{branch_line, assignment_line, left_step}
 use Rattle.flow_program.specs.Uses.{ProgramUse, signal_use, term_uses, update_uses, listed_uses, placed_uses, left_uses, window_uses}
 use Rattle.flow_program.specs.Uses.{node_uses}
@@ -67,14 +67,14 @@ module _ (names : List NameEntry) (distinct : AreDistinct names) (readable : Lis
   abbrev Held : List ProgramUse → Type 0
   Held us = AllByRecursion (HeldUse names readable) us
 
-  shallow : (p : PhraseTree) (d : ℕ) → phrase_brackets p ≡ d → nat_le d deepest ≡ true → is_shallow p ≡ true
+  shallow : (p : SurfaceTermTree) (d : ℕ) → surface_brackets p ≡ d → nat_le d deepest ≡ true → is_shallow p ≡ true
   shallow p d is h = ap (λ n. nat_le n deepest) is ∙ h
 
   -- ---- an update, `[s <- t]`
 
   record ListingOfUpdate (s : ℕ) (t : TermTree) (front : List ℕ) : Type 0 where
     pub signal : Name
-    pub term : PhraseTree
+    pub term : SurfaceTermTree
     pub signal_is : numbered names text signal ≡ Some s
     pub numbered_is : numbered_term names text term ≡ Some t
     pub runs : Run (update_pieces signal term) front (update_text names s t)
@@ -98,13 +98,13 @@ module _ (names : List NameEntry) (distinct : AreDistinct names) (readable : Lis
       listing_of_term names distinct readable text t (front ++ ((codes "[" ++ name) ++ codes " <- ")) term.0 reads term_here in
       record {
         signal = name_at start name;
-        term = p.phrase;
+        term = p.surface;
         signal_is = number_at names distinct readable text s Signal 0 start signal.0 name_here;
         numbered_is = p.numbered_is;
         runs = joined (joined (joined (joined (a_word (codes "[")) (a_name name (usable_text names s signal.1))) (a_word (codes " <- ")))
             p.runs) (a_word (codes "]"));
         text_is = bytes_at text start name name_here;
-        flat = shallow p.phrase (brackets t) p.deep term.1;
+        flat = shallow p.surface (brackets t) p.deep term.1;
         held = λ line. (signal_held names distinct readable text line s start signal.0 signal.1 name_here, p.held line);
       }
 
@@ -219,11 +219,11 @@ module _ (names : List NameEntry) (distinct : AreDistinct names) (readable : Lis
       let t : ListingOfTest names distinct readable text p front = listing_of_test names distinct readable text p front fit.0 reads
       (occurs_left text front bytes (codes " at " ++ decimal step) occurs) in
       record {
-        line = record { test = t.phrase; step = step };
+        line = record { test = t.surface; step = step };
         test_is = t.numbered_is;
         step_is = refl;
         runs = joined t.runs (joined (a_word (codes " at ")) (a_word (decimal step)));
-        within = and_from (is_shallow t.phrase) (is_short step) (shallow t.phrase (brackets_of_arguments p.arguments) t.deep fit.1)
+        within = and_from (is_shallow t.surface) (is_short step) (shallow t.surface (brackets_of_arguments p.arguments) t.deep fit.1)
             (short_is step (omega (arith, few)));
         held = t.held;
       }
@@ -451,17 +451,17 @@ module _ (names : List NameEntry) (distinct : AreDistinct names) (readable : Lis
         let o3 = occurs_right text f2 (codes " if ") (T ++ tail) o2 in
         let p : ListingOfTest names distinct readable text t f3 = listing_of_test names distinct readable text t f3 fit.0 keeps.2
         (occurs_left text f3 T tail o3) in
-        let line = branch_line p.phrase a b in
+        let line = branch_line p.surface a b in
         let whole : Run (line_pieces (node_tree_line number line)) front (codes "node " ++ (i ++ (codes " if " ++ (T ++ tail)))) =
         joined (a_word (codes "node ")) (joined (a_word i) (joined (a_word (codes " if ")) (joined p.runs
         (joined (a_word (codes " then ")) (joined (a_word (decimal a)) (joined (a_word (codes " else ")) (a_word (decimal b)))))))) in
         record {
           line = line;
-          numbered_is = branch_numbered names text p.phrase t a b p.numbered_is (small_is a (omega (arith, few, keeps.0)))
+          numbered_is = branch_numbered names text p.surface t a b p.numbered_is (small_is a (omega (arith, few, keeps.0)))
               (small_is b (omega (arith, few, keeps.1)));
           runs = joined (subst (Run (line_pieces (node_tree_line number line)) front) (sym apart) whole) (a_word (codes "\n"));
-          within = and_from (is_short number) (is_shallow p.phrase && (is_short a && is_short b)) (short_is number few)
-              (and_from (is_shallow p.phrase) (is_short a && is_short b) (shallow p.phrase (brackets_of_arguments t.arguments) p.deep fit.1)
+          within = and_from (is_short number) (is_shallow p.surface && (is_short a && is_short b)) (short_is number few)
+              (and_from (is_shallow p.surface) (is_short a && is_short b) (shallow p.surface (brackets_of_arguments t.arguments) p.deep fit.1)
               (and_from (is_short a) (is_short b) (short_is a (omega (arith, few, keeps.0))) (short_is b (omega (arith, few, keeps.1)))));
           order = ap not (and_from (nat_lt a number) (nat_lt b number) (lt-ltb a number keeps.0) (lt-ltb b number keeps.1));
           go_is = refl;

@@ -22,9 +22,9 @@ use Rattle.tsl_terms.proofs.FirstUses.{first_some, not_found}
 use Rattle.term_text.specs.TermText.{name_text, argument_text, applied_text, term_text, arguments_text, application_text, question_text}
 use Rattle.term_text.specs.TermText.{probe_text}
 use Rattle.sequence.proofs.Options.{some_passes}
-use Rattle.program_listing.specs.LineText.{argument_pieces, applied_pieces, phrase_pieces, phrases_pieces}
-use Rattle.program_listing.specs.Listing.{PhraseTree, bare, applied, PhraseTrees, no_phrases, more_phrases, count_of_phrases, name_bytes}
-use Rattle.program_listing.specs.Listing.{bracketed_phrase, phrase_brackets, phrases_brackets}
+use Rattle.program_listing.specs.LineText.{argument_pieces, applied_pieces, surface_pieces, surfaces_pieces}
+use Rattle.program_listing.specs.Listing.{SurfaceTermTree, bare, applied, SurfaceTermTrees, no_surfaces, more_surfaces, count_of_surfaces, name_bytes}
+use Rattle.program_listing.specs.Listing.{bracketed_surface, surface_brackets, surfaces_brackets}
 use Rattle.flow_program.specs.Uses.{ProgramUse, read_use, tested_use, applied_use, signal_use, term_uses, terms_uses, test_uses}
 use Rattle.flow_program.specs.Uses.{question_entry}
 use Rattle.flow_program.specs.internal.Numbering.{numbered, numbered_term, numbered_terms, numbered_test, probe_with}
@@ -140,52 +140,52 @@ module _ (names : List NameEntry) where
 
     -- ---- terms
 
-    abbrev SameShape : TermTrees → PhraseTrees → Type 0
-    SameShape no_terms no_phrases = Unit {0}
-    SameShape no_terms (more_phrases p ps) = ⊥
-    SameShape (more_terms t ts) no_phrases = ⊥
-    SameShape (more_terms t ts) (more_phrases p ps) = Unit {0}
+    abbrev SameShape : TermTrees → SurfaceTermTrees → Type 0
+    SameShape no_terms no_surfaces = Unit {0}
+    SameShape no_terms (more_surfaces p ps) = ⊥
+    SameShape (more_terms t ts) no_surfaces = ⊥
+    SameShape (more_terms t ts) (more_surfaces p ps) = Unit {0}
 
-    -- a phrase of the form of a term
-    abbrev SameForm : TermTree → PhraseTree → Type 0
+    -- a surface term of the form of a term
+    abbrev SameForm : TermTree → SurfaceTermTree → Type 0
     SameForm (signal s) (bare at) = Unit {0}
     SameForm (signal s) (applied at ps) = ⊥
     SameForm (apply f ts) (bare at) = ⊥
     SameForm (apply f ts) (applied at ps) = SameShape ts ps
 
     pub record ListingOfTerm (t : TermTree) (front : List ℕ) : Type 0 where
-      pub phrase : PhraseTree
-      pub form : SameForm t phrase
-      pub numbered_is : numbered_term names text phrase ≡ Some t
-      pub runs : Run (phrase_pieces phrase) front (term_text names t)
-      pub deep : phrase_brackets phrase ≡ brackets t
-      pub held : (line : ℕ) → AllByRecursion (HeldUse readable) (term_uses text line phrase)
+      pub surface : SurfaceTermTree
+      pub form : SameForm t surface
+      pub numbered_is : numbered_term names text surface ≡ Some t
+      pub runs : Run (surface_pieces surface) front (term_text names t)
+      pub deep : surface_brackets surface ≡ brackets t
+      pub held : (line : ℕ) → AllByRecursion (HeldUse readable) (term_uses text line surface)
 
     record ListingOfTerms (ts : TermTrees) (front : List ℕ) : Type 0 where
-      pub phrases : PhraseTrees
-      pub numbered_are : numbered_terms names text phrases ≡ Some ts
-      pub runs : Run (phrases_pieces phrases) front (arguments_text names ts)
-      pub deep : phrases_brackets phrases ≡ brackets_of_arguments ts
-      pub count : count_of_phrases phrases ≡ count_of_terms ts
-      pub shape : SameShape ts phrases
-      pub held : (line : ℕ) → AllByRecursion (HeldUse readable) (terms_uses text line phrases)
+      pub surfaces : SurfaceTermTrees
+      pub numbered_are : numbered_terms names text surfaces ≡ Some ts
+      pub runs : Run (surfaces_pieces surfaces) front (arguments_text names ts)
+      pub deep : surfaces_brackets surfaces ≡ brackets_of_arguments ts
+      pub count : count_of_surfaces surfaces ≡ count_of_terms ts
+      pub shape : SameShape ts surfaces
+      pub held : (line : ℕ) → AllByRecursion (HeldUse readable) (terms_uses text line surfaces)
 
     -- what follows a name
     applied_runs : (ts : TermTrees) (front : List ℕ) (p : ListingOfTerms ts front) →
-        Run (applied_pieces p.phrases (phrases_pieces p.phrases)) front (applied_text ts (arguments_text names ts))
-    applied_runs no_terms front p = by p.phrases p.shape where
-      by : (ps : PhraseTrees) → SameShape no_terms ps → Run (applied_pieces ps (phrases_pieces ps)) front (codes "()")
-      by no_phrases h = a_word (codes "()")
-      by (more_phrases q qs) h = absurd h
-    applied_runs (more_terms t ts) front p = by p.phrases p.shape p.runs where
-      by : (ps : PhraseTrees) → SameShape (more_terms t ts) ps → Run (phrases_pieces ps) front (arguments_text names (more_terms t ts)) →
-          Run (applied_pieces ps (phrases_pieces ps)) front (arguments_text names (more_terms t ts))
-      by no_phrases h r = absurd h
-      by (more_phrases q qs) h r = r
+        Run (applied_pieces p.surfaces (surfaces_pieces p.surfaces)) front (applied_text ts (arguments_text names ts))
+    applied_runs no_terms front p = by p.surfaces p.shape where
+      by : (ps : SurfaceTermTrees) → SameShape no_terms ps → Run (applied_pieces ps (surfaces_pieces ps)) front (codes "()")
+      by no_surfaces h = a_word (codes "()")
+      by (more_surfaces q qs) h = absurd h
+    applied_runs (more_terms t ts) front p = by p.surfaces p.shape p.runs where
+      by : (ps : SurfaceTermTrees) → SameShape (more_terms t ts) ps → Run (surfaces_pieces ps) front (arguments_text names (more_terms t ts)) →
+          Run (applied_pieces ps (surfaces_pieces ps)) front (arguments_text names (more_terms t ts))
+      by no_surfaces h r = absurd h
+      by (more_surfaces q qs) h r = r
 
     application_runs : (f : ℕ) (ts : TermTrees) (front : List ℕ) → is_usable_at names f ≡ true →
         (p : ListingOfTerms ts (front ++ name_text names f)) →
-        Run (phrase_pieces (applied (name_at front (name_text names f)) p.phrases)) front
+        Run (surface_pieces (applied (name_at front (name_text names f)) p.surfaces)) front
         (name_text names f ++ applied_text ts (arguments_text names ts))
     application_runs f ts front usable p =
         joined (a_name (name_text names f) (usable_text f usable)) (applied_runs ts (front ++ name_text names f) p)
@@ -210,26 +210,26 @@ module _ (names : List NameEntry) where
         let bytes = term_text names (apply f (more_terms t ts)) in
         occurs_right text front (codes "(") bytes (occurs_left text front (codes "(" ++ bytes) (codes ")") h)
 
-    argument_runs : (t : TermTree) (p : PhraseTree) (front : List ℕ) → SameForm t p →
-        Run (phrase_pieces p) (start_of t front) (term_text names t) →
-        Run (argument_pieces p (phrase_pieces p)) front (argument_text t (term_text names t))
+    argument_runs : (t : TermTree) (p : SurfaceTermTree) (front : List ℕ) → SameForm t p →
+        Run (surface_pieces p) (start_of t front) (term_text names t) →
+        Run (argument_pieces p (surface_pieces p)) front (argument_text t (term_text names t))
     argument_runs (signal s) (bare at) front form r = r
     argument_runs (signal s) (applied at ps) front form r = absurd form
     argument_runs (apply f ts) (bare at) front form r = absurd form
-    argument_runs (apply f no_terms) (applied at no_phrases) front form r = r
-    argument_runs (apply f no_terms) (applied at (more_phrases p ps)) front form r = absurd form
-    argument_runs (apply f (more_terms t ts)) (applied at no_phrases) front form r = absurd form
-    argument_runs (apply f (more_terms t ts)) (applied at (more_phrases p ps)) front form r =
+    argument_runs (apply f no_terms) (applied at no_surfaces) front form r = r
+    argument_runs (apply f no_terms) (applied at (more_surfaces p ps)) front form r = absurd form
+    argument_runs (apply f (more_terms t ts)) (applied at no_surfaces) front form r = absurd form
+    argument_runs (apply f (more_terms t ts)) (applied at (more_surfaces p ps)) front form r =
         joined (joined (a_word (codes "(")) r) (a_word (codes ")"))
 
-    same_bracketed : (t : TermTree) (p : PhraseTree) (d : ℕ) → SameForm t p → bracketed_phrase p d ≡ bracketed t d
+    same_bracketed : (t : TermTree) (p : SurfaceTermTree) (d : ℕ) → SameForm t p → bracketed_surface p d ≡ bracketed t d
     same_bracketed (signal s) (bare at) d form = refl
     same_bracketed (signal s) (applied at ps) d form = absurd form
     same_bracketed (apply f ts) (bare at) d form = absurd form
-    same_bracketed (apply f no_terms) (applied at no_phrases) d form = refl
-    same_bracketed (apply f no_terms) (applied at (more_phrases p ps)) d form = absurd form
-    same_bracketed (apply f (more_terms t ts)) (applied at no_phrases) d form = absurd form
-    same_bracketed (apply f (more_terms t ts)) (applied at (more_phrases p ps)) d form = refl
+    same_bracketed (apply f no_terms) (applied at no_surfaces) d form = refl
+    same_bracketed (apply f no_terms) (applied at (more_surfaces p ps)) d form = absurd form
+    same_bracketed (apply f (more_terms t ts)) (applied at no_surfaces) d form = absurd form
+    same_bracketed (apply f (more_terms t ts)) (applied at (more_surfaces p ps)) d form = refl
 
     mutual
       pub listing_of_term : (t : TermTree) (front : List ℕ) → term_fits names t ≡ true → reads_only readable t ≡ true →
@@ -237,7 +237,7 @@ module _ (names : List NameEntry) where
       listing_of_term (signal s) front fits reads occurs =
           let parts = and_parts (is_name names s Signal 0) (is_usable_at names s) fits in
           record {
-            phrase = bare (name_at front (name_text names s));
+            surface = bare (name_at front (name_text names s));
             form = tt;
             numbered_is = ap (option_map signal) (number_at s Signal 0 front parts.0 occurs);
             runs = a_name (name_text names s) (usable_text s parts.1);
@@ -256,9 +256,9 @@ module _ (names : List NameEntry) where
           let p : ListingOfTerms ts (front ++ name_text names f) =
           listing_of_terms ts (front ++ name_text names f) parts.1 reads (arguments_occur ts (front ++ name_text names f) rest) in
           record {
-            phrase = applied (name_at front (name_text names f)) p.phrases;
+            surface = applied (name_at front (name_text names f)) p.surfaces;
             form = p.shape;
-            numbered_is = ap (option_and_then (λ n. option_map (apply n) (numbered_terms names text p.phrases)))
+            numbered_is = ap (option_and_then (λ n. option_map (apply n) (numbered_terms names text p.surfaces)))
                 (number_at f Function (count_of_terms ts) front name.0 first) ∙ ap (option_map (apply f)) p.numbered_are;
             runs = application_runs f ts front name.1 p;
             deep = p.deep;
@@ -273,7 +273,7 @@ module _ (names : List NameEntry) where
           Occurs text front (arguments_text names ts) → ListingOfTerms ts front
       listing_of_terms no_terms front fits reads occurs =
           record {
-            phrases = no_phrases;
+            surfaces = no_surfaces;
             numbered_are = refl;
             runs = no_run;
             deep = refl;
@@ -294,15 +294,15 @@ module _ (names : List NameEntry) where
           let tail : ListingOfTerms ts (front ++ (codes " " ++ argument)) = listing_of_terms ts (front ++ (codes " "
           ++ argument)) fit.1 read.1 rest in
           record {
-            phrases = more_phrases head.phrase tail.phrases;
-            numbered_are = ap (option_and_then (λ tree. option_map (more_terms tree) (numbered_terms names text tail.phrases)))
+            surfaces = more_surfaces head.surface tail.surfaces;
+            numbered_are = ap (option_and_then (λ tree. option_map (more_terms tree) (numbered_terms names text tail.surfaces)))
                 head.numbered_is ∙ ap (option_map (more_terms t)) tail.numbered_are;
-            runs = joined (joined (a_word (codes " ")) (argument_runs t head.phrase (front ++ codes " ") head.form head.runs)) tail.runs;
-            deep = λ i. max ((ap (bracketed_phrase head.phrase) head.deep
-                ∙ same_bracketed t head.phrase (brackets t) head.form) i) (tail.deep i);
+            runs = joined (joined (a_word (codes " ")) (argument_runs t head.surface (front ++ codes " ") head.form head.runs)) tail.runs;
+            deep = λ i. max ((ap (bracketed_surface head.surface) head.deep
+                ∙ same_bracketed t head.surface (brackets t) head.form) i) (tail.deep i);
             count = ap (λ n. 1 + n) tail.count;
             shape = tt;
-            held = λ line. each_joined (HeldUse readable) (term_uses text line head.phrase) (terms_uses text line tail.phrases)
+            held = λ line. each_joined (HeldUse readable) (term_uses text line head.surface) (terms_uses text line tail.surfaces)
                 (head.held line)
                 (tail.held line);
           }
@@ -310,11 +310,11 @@ module _ (names : List NameEntry) where
     -- ---- tests
 
     pub record ListingOfTest (p : ProbeTree) (front : List ℕ) : Type 0 where
-      pub phrase : PhraseTree
-      pub numbered_is : numbered_test names text phrase ≡ Some p
-      pub runs : Run (phrase_pieces phrase) front (probe_text names p)
-      pub deep : phrase_brackets phrase ≡ brackets_of_arguments p.arguments
-      pub held : (line : ℕ) → AllByRecursion (HeldUse readable) (test_uses text line phrase)
+      pub surface : SurfaceTermTree
+      pub numbered_is : numbered_test names text surface ≡ Some p
+      pub runs : Run (surface_pieces surface) front (probe_text names p)
+      pub deep : surface_brackets surface ≡ brackets_of_arguments p.arguments
+      pub held : (line : ℕ) → AllByRecursion (HeldUse readable) (test_uses text line surface)
 
     -- a predicate with its arguments
     listing_of_application : (q : ℕ) (ts : TermTrees) (front : List ℕ) → is_name names q Predicate (count_of_terms ts) ≡ true →
@@ -328,10 +328,10 @@ module _ (names : List NameEntry) where
         listing_of_terms ts (front ++ name_text names q) fit reads (arguments_occur ts (front ++ name_text names q) rest) in
         let probe : ProbeTree = record { predicate = q; arguments = ts } in
         record {
-          phrase = applied (name_at front (name_text names q)) p.phrases;
-          numbered_is = ap (option_and_then (λ n. option_map (probe_with n) (numbered_terms names text p.phrases)))
+          surface = applied (name_at front (name_text names q)) p.surfaces;
+          numbered_is = ap (option_and_then (λ n. option_map (probe_with n) (numbered_terms names text p.surfaces)))
               (number_at q Predicate (count_of_terms ts) front fits first) ∙ ap (option_map (probe_with q)) p.numbered_are;
-          runs = subst (Run (phrase_pieces (applied (name_at front (name_text names q)) p.phrases)) front)
+          runs = subst (Run (surface_pieces (applied (name_at front (name_text names q)) p.surfaces)) front)
               (sym (ap (λ b. cond b (question_text names probe ts) (application_text names probe)) other))
               (application_runs q ts front usable p);
           deep = p.deep;
@@ -358,13 +358,13 @@ module _ (names : List NameEntry) where
         let args = more_terms (signal s) no_terms in
         let probe : ProbeTree = record { predicate = q; arguments = args } in
         record {
-          phrase = bare (name_at front (name_text names s));
+          surface = bare (name_at front (name_text names s));
           numbered_is =
               ap (option_and_then (λ k. option_map (λ n. probe_with n (more_terms (signal k) no_terms)) (number_of names question)))
               (number_at s Signal 0 front name.0 occurs)
               ∙ ap (option_map (λ n. probe_with n args)) (ap (number_of names) (sym text_is ∙ e.text) ∙ its_number distinct q e.entry
               e.there);
-          runs = subst (Run (phrase_pieces (bare (name_at front (name_text names s)))) front)
+          runs = subst (Run (surface_pieces (bare (name_at front (name_text names s)))) front)
               (sym (ap (λ b. cond b (name_text names s) (application_text names probe)) asks))
               (a_name (name_text names s) (usable_text s name.1));
           deep = refl;

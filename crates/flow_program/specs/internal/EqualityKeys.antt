@@ -3,8 +3,8 @@
 use Rattle.std.specs.Prelude.{ℕ, Bool, true, not, ◌&&◌, ◌==◌, nat_le, List, [], ◌∷◌, ◌++◌, length}
 use Rattle.std.specs.List.{list_all}
 use Rattle.program_listing.specs.declared.listing.Name.{Name}
-use Rattle.program_listing.specs.Listing.{PhraseTree, bare, applied, PhraseTrees, no_phrases, more_phrases, PlacedLine, name_bytes}
-use Rattle.flow_program.specs.Rules.{same_phrase}
+use Rattle.program_listing.specs.Listing.{SurfaceTermTree, bare, applied, SurfaceTermTrees, no_surfaces, more_surfaces, PlacedLine, name_bytes}
+use Rattle.flow_program.specs.Rules.{same_surface}
 
 -- a test holds of each member and each later one
 abbrev pub is_pairwise : {X : Type 0} → (X → X → Bool) → List X → Bool
@@ -18,7 +18,7 @@ does_not_fall d e = nat_le d.step e.step
 module _ (text : List ℕ) where
   -- two equalities stand at different steps, or are spelled otherwise
   abbrev pub are_apart : PlacedLine → PlacedLine → Bool
-  are_apart d e = not ((d.step == e.step) && same_phrase text d.test e.test)
+  are_apart d e = not ((d.step == e.step) && same_surface text d.test e.test)
 
   -- the length of a name, and its bytes
   abbrev pub name_key : Name → List ℕ
@@ -26,13 +26,13 @@ module _ (text : List ℕ) where
 
   -- a 0 before a name alone; a 1 before a name with arguments, each of them behind a 1, and a 0 after the last
   abbrev mutual
-    pub phrase_key : PhraseTree → List ℕ
-    phrase_key (bare m) = 0 ∷ name_key m
-    phrase_key (applied m ps) = 1 ∷ name_key m ++ phrases_key ps
+    pub surface_key : SurfaceTermTree → List ℕ
+    surface_key (bare m) = 0 ∷ name_key m
+    surface_key (applied m ps) = 1 ∷ name_key m ++ surfaces_key ps
 
-    pub phrases_key : PhraseTrees → List ℕ
-    phrases_key no_phrases = 0 ∷ []
-    phrases_key (more_phrases p ps) = 1 ∷ phrase_key p ++ phrases_key ps
+    pub surfaces_key : SurfaceTermTrees → List ℕ
+    surfaces_key no_surfaces = 0 ∷ []
+    surfaces_key (more_surfaces p ps) = 1 ∷ surface_key p ++ surfaces_key ps
 
   abbrev pub placed_key : PlacedLine → List ℕ
-  placed_key e = e.step ∷ phrase_key e.test
+  placed_key e = e.step ∷ surface_key e.test

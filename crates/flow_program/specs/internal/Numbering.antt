@@ -8,7 +8,7 @@ use Rattle.tsl_terms.specs.WindowTree.{WindowTree, ListedTree, EquatedTree}
 use Rattle.program_listing.specs.declared.listing.Name.{Name}
 use Rattle.program_tree.specs.NodeTree.{NodeTree, branch, assign}
 use Rattle.program_tree.specs.ProgramTree.{ProgramTree}
-use Rattle.program_listing.specs.Listing.{PhraseTree, bare, applied, PhraseTrees, no_phrases, more_phrases, name_bytes}
+use Rattle.program_listing.specs.Listing.{SurfaceTermTree, bare, applied, SurfaceTermTrees, no_surfaces, more_surfaces, name_bytes}
 use Rattle.program_listing.specs.Listing.{ListedLine, PlacedLine, WindowLine, NodeLine, branch_line, assignment_line, ListingTree, left_step}
 
 abbrev pub probe_with : ℕ → TermTrees → ProbeTree
@@ -39,17 +39,17 @@ module _ (names : List NameEntry) (text : List ℕ) where
   numbered at = number_of names (name_bytes text at)
 
   abbrev mutual
-    pub numbered_term : PhraseTree → Option TermTree
+    pub numbered_term : SurfaceTermTree → Option TermTree
     numbered_term (bare at) = option_map signal (numbered at)
     numbered_term (applied at arguments) =
         option_and_then (λ number. option_map (apply number) (numbered_terms arguments)) (numbered at)
 
-    pub numbered_terms : PhraseTrees → Option TermTrees
-    numbered_terms no_phrases = Some no_terms
-    numbered_terms (more_phrases p ps) =
+    pub numbered_terms : SurfaceTermTrees → Option TermTrees
+    numbered_terms no_surfaces = Some no_terms
+    numbered_terms (more_surfaces p ps) =
         option_and_then (λ tree. option_map (more_terms tree) (numbered_terms ps)) (numbered_term p)
 
-  abbrev pub numbered_test : PhraseTree → Option ProbeTree
+  abbrev pub numbered_test : SurfaceTermTree → Option ProbeTree
   numbered_test (bare at) =
       option_and_then (λ s. option_map (λ q. probe_with q (more_terms (signal s) no_terms)) (number_of names question)) (numbered at)
   numbered_test (applied at arguments) =

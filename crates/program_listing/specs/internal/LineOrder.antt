@@ -5,8 +5,8 @@ use Rattle.std.specs.Prelude.{Some, None, is_none, option_map, option_and_then, 
 use Rattle.std.specs.List.{list_all, prefix_len, AllByRecursion}
 use Rattle.tsl_text.specs.Lines.{is_line_byte}
 use Rattle.tsl_terms.specs.Name.{number_of, Name as NameEntry}
-use Rattle.program_listing.specs.declared.left.Misread.{Misread}
-use Rattle.program_listing.specs.declared.left.Misread.TheVariants.{Form, NoMemory}
+use Rattle.program_listing.specs.declared.rest.LineError.{LineError}
+use Rattle.program_listing.specs.declared.rest.LineError.TheVariants.{Form, NoMemory}
 use Rattle.program_listing.specs.declared.listing.Name.{Name}
 use Rattle.program_listing.specs.declared.listing.ListingError.{ListingError}
 use Rattle.program_listing.specs.declared.listing.ListingError.TheVariants.{Form as FormAt, NoMemory as Exhausted}
@@ -178,11 +178,11 @@ abbrev pub DeclaresIn : Place → LineTree → Type 0
 DeclaresIn p line = AllByRecursion (LiesIn p) (declares line)
 
 -- a name is declared again, unless memory ran out
-abbrev pub IsRepeated : Bool → Misread → Type 0
+abbrev pub IsRepeated : Bool → LineError → Type 0
 IsRepeated new Form = new ≡ false
 IsRepeated new NoMemory = Unit {0}
 
 -- the error of a line that is at fault
-abbrev pub error_at : Misread → ℕ → ListingError
+abbrev pub error_at : LineError → ℕ → ListingError
 error_at Form line = FormAt line
 error_at NoMemory line = Exhausted

@@ -34,19 +34,19 @@ use Rattle.tsl_text.specs.Lines.{has_bytes, is_space}
 use Rattle.tsl_text.specs.Numbers.{plain_number_in}
 use Rattle.tsl_terms.specs.WellFormed.{deepest}
 use Rattle.line_formats.specs.Format.{strip}
-use Rattle.program_listing.specs.declared.left.Left.{Left}
-use Rattle.program_listing.specs.declared.left.Misread.{Misread}
-use Rattle.program_listing.specs.declared.left.Misread.TheVariants.{Form, NoMemory}
+use Rattle.program_listing.specs.declared.rest.Rest.{Rest}
+use Rattle.program_listing.specs.declared.rest.LineError.{LineError}
+use Rattle.program_listing.specs.declared.rest.LineError.TheVariants.{Form, NoMemory}
 use Rattle.program_listing.specs.declared.line.Line.{Line}
 use Rattle.program_listing.specs.declared.line.Line.TheVariants.{Head, Input, Cell, Output, Window, Node, State, End}
 use Rattle.program_listing.specs.declared.listing.Name.{Name}
 use Rattle.program_listing.specs.ListingTree.{
-  PhraseTree,
+  SurfaceTermTree,
   bare,
   applied,
-  PhraseTrees,
-  no_phrases,
-  more_phrases,
+  SurfaceTermTrees,
+  no_surfaces,
+  more_surfaces,
   UpdateLine,
   ListedLine,
   PlacedLine,
@@ -59,11 +59,11 @@ use Rattle.program_listing.specs.ListingTree.{
 }
 use Rattle.program_listing.specs.LineText.{Place, LineTree, head_line, input, cell, output, window, node, state, end_line}
 
-abbrev pub left_place : Left → Place
+abbrev pub left_place : Rest → Place
 left_place left = record { at = left.at; bytes = left.bytes.now }
 
 -- nothing was read, unless memory ran out
-abbrev pub IsMisread : {V : Type 0} → Option V → Misread → Type 0
+abbrev pub IsMisread : {V : Type 0} → Option V → LineError → Type 0
 IsMisread answer Form = answer ≡ None
 IsMisread answer NoMemory = Unit {0}
 
@@ -71,11 +71,11 @@ abbrev pub LineReader : Type 0 → Type 0
 LineReader V = Place → Option (V × Place)
 
 -- the reader gives what was read, as it is seen, and what is left after it
-abbrev pub IsReadAs : {V W : Type 0} → (W → V) → LineReader V → Left → W × Left → Type 0
+abbrev pub IsReadAs : {V W : Type 0} → (W → V) → LineReader V → Rest → W × Rest → Type 0
 IsReadAs view reader left read = reader (left_place left) ≡ Some (view read.0, left_place read.1)
 
 -- the reader gives nothing, unless memory ran out
-abbrev pub IsUnread : {V : Type 0} → LineReader V → Left → Misread → Type 0
+abbrev pub IsUnread : {V : Type 0} → LineReader V → Rest → LineError → Type 0
 IsUnread reader left = IsMisread (reader (left_place left))
 
 -- ---- readers of others
@@ -189,9 +189,9 @@ first_number p = number_of_length (prefix_len is_ascii_digit p.bytes) p
 
 -- ---- terms and tests
 
-abbrev pub phrases_of : List PhraseTree → PhraseTrees
-phrases_of [] = no_phrases
-phrases_of (p ∷ ps) = more_phrases p (phrases_of ps)
+abbrev pub surfaces_of : List SurfaceTermTree → SurfaceTermTrees
+surfaces_of [] = no_surfaces
+surfaces_of (p ∷ ps) = more_surfaces p (surfaces_of ps)
 
 abbrev pub is_open : ℕ → Bool
 is_open byte = byte == 40
@@ -212,57 +212,57 @@ argument_follows [] = false
 argument_follows (byte ∷ bytes) = is_space byte && argument_begins bytes
 
 -- a name, or a constant where `()` follows it
-abbrev pub constant_or : Name → Option Place → Option (PhraseTree × Place) → Option (PhraseTree × Place)
-constant_or name (Some p) other = Some (applied name no_phrases, p)
+abbrev pub constant_or : Name → Option Place → Option (SurfaceTermTree × Place) → Option (SurfaceTermTree × Place)
+constant_or name (Some p) other = Some (applied name no_surfaces, p)
 constant_or name None other = other
 
-abbrev pub short_after : Option (Name × Place) → Option (PhraseTree × Place)
+abbrev pub short_after : Option (Name × Place) → Option (SurfaceTermTree × Place)
 short_after None = None
 short_after (Some (name, p)) = constant_or name (past (codes "()") p) (Some (bare name, p))
 
 -- an argument without brackets
-abbrev pub short : LineReader PhraseTree
+abbrev pub short : LineReader SurfaceTermTree
 short p = short_after (first_name p)
 
 -- an argument, where this reader reads those in brackets
-abbrev pub argument_phrase : LineReader PhraseTree → LineReader PhraseTree
-argument_phrase phrase_in_brackets p = if begins is_open p.bytes then phrase_in_brackets p else short p
+abbrev pub argument_surface : LineReader SurfaceTermTree → LineReader SurfaceTermTree
+argument_surface surface_in_brackets p = if begins is_open p.bytes then surface_in_brackets p else short p
 
-abbrev pub spaced_argument : LineReader PhraseTree → LineReader PhraseTree
-spaced_argument phrase_in_brackets = prefixed (codes " ") (argument_phrase phrase_in_brackets)
+abbrev pub spaced_argument : LineReader SurfaceTermTree → LineReader SurfaceTermTree
+spaced_argument surface_in_brackets = prefixed (codes " ") (argument_surface surface_in_brackets)
 
-abbrev pub arguments : LineReader PhraseTree → LineReader (List PhraseTree)
-arguments phrase_in_brackets = repeat argument_follows (spaced_argument phrase_in_brackets)
+abbrev pub arguments : LineReader SurfaceTermTree → LineReader (List SurfaceTermTree)
+arguments surface_in_brackets = repeat argument_follows (spaced_argument surface_in_brackets)
 
-abbrev pub phrase_of : Name → List PhraseTree → PhraseTree
-phrase_of name [] = bare name
-phrase_of name (p ∷ ps) = applied name (phrases_of (p ∷ ps))
+abbrev pub surface_of : Name → List SurfaceTermTree → SurfaceTermTree
+surface_of name [] = bare name
+surface_of name (p ∷ ps) = applied name (surfaces_of (p ∷ ps))
 
-abbrev pub phrase_after : LineReader PhraseTree → Option (Name × Place) → Option (PhraseTree × Place)
-phrase_after phrase_in_brackets None = None
-phrase_after phrase_in_brackets (Some (name, p)) =
-    constant_or name (past (codes "()") p) (mapped (phrase_of name) (arguments phrase_in_brackets p))
+abbrev pub surface_after : LineReader SurfaceTermTree → Option (Name × Place) → Option (SurfaceTermTree × Place)
+surface_after surface_in_brackets None = None
+surface_after surface_in_brackets (Some (name, p)) =
+    constant_or name (past (codes "()") p) (mapped (surface_of name) (arguments surface_in_brackets p))
 
 -- a term or a test
-abbrev pub phrase_with : LineReader PhraseTree → LineReader PhraseTree
-phrase_with phrase_in_brackets p = phrase_after phrase_in_brackets (first_name p)
+abbrev pub surface_with : LineReader SurfaceTermTree → LineReader SurfaceTermTree
+surface_with surface_in_brackets p = surface_after surface_in_brackets (first_name p)
 
--- a phrase that has arguments
-abbrev pub has_arguments : PhraseTree → Bool
-has_arguments (applied name (more_phrases p ps)) = true
+-- a surface term that has arguments
+abbrev pub has_arguments : SurfaceTermTree → Bool
+has_arguments (applied name (more_surfaces p ps)) = true
 has_arguments _ = false
 
-abbrev pub only_applied : Option (PhraseTree × Place) → Option (PhraseTree × Place)
+abbrev pub only_applied : Option (SurfaceTermTree × Place) → Option (SurfaceTermTree × Place)
 only_applied None = None
-only_applied (Some (phrase, p)) = if has_arguments phrase then keep_before phrase (past (codes ")") p) else None
+only_applied (Some (surface, p)) = if has_arguments surface then keep_before surface (past (codes ")") p) else None
 
--- a phrase with arguments in brackets, where so many levels of brackets are left
-unfoldable pub phrase_in_brackets : ℕ → LineReader PhraseTree
-phrase_in_brackets zero p = None
-phrase_in_brackets (suc room) p = only_applied (from (past (codes "(") p) (phrase_with (phrase_in_brackets room)))
+-- a surface term with arguments in brackets, where so many levels of brackets are left
+unfoldable pub surface_in_brackets : ℕ → LineReader SurfaceTermTree
+surface_in_brackets zero p = None
+surface_in_brackets (suc levels_left) p = only_applied (from (past (codes "(") p) (surface_with (surface_in_brackets levels_left)))
 
-abbrev pub phrase : LineReader PhraseTree
-phrase = phrase_with (phrase_in_brackets deepest)
+abbrev pub surface : LineReader SurfaceTermTree
+surface = surface_with (surface_in_brackets deepest)
 
 -- ---- lines
 
@@ -282,8 +282,8 @@ line_tree (State number n) = state number n
 line_tree End = end_line
 
 -- `[NAME <- TERM]`
-abbrev pub update : LineReader (Name × PhraseTree)
-update = closed (codes "]") (pair (prefixed (codes "[") first_name) (prefixed (codes " <- ") phrase))
+abbrev pub update : LineReader (Name × SurfaceTermTree)
+update = closed (codes "]") (pair (prefixed (codes "[") first_name) (prefixed (codes " <- ") surface))
 
 abbrev pub is_square : ℕ → Bool
 is_square byte = byte == 91
@@ -293,14 +293,14 @@ abbrev pub update_follows : List ℕ → Bool
 update_follows [] = false
 update_follows (byte ∷ bytes) = is_space byte && begins is_square bytes
 
-abbrev pub as_update : Name × PhraseTree → UpdateLine
+abbrev pub as_update : Name × SurfaceTermTree → UpdateLine
 as_update u = record { signal = u.0; term = u.1 }
 
 -- an update of an assignment, a space before it
 abbrev pub set_update : LineReader UpdateLine
 set_update p = mapped as_update (prefixed (codes " ") update p)
 
-abbrev pub as_listed : (Name × PhraseTree) × ℕ → ListedLine
+abbrev pub as_listed : (Name × SurfaceTermTree) × ℕ → ListedLine
 as_listed u = record { signal = u.0.0; term = u.0.1; offset = u.1 }
 
 -- an update that a window lists
@@ -311,12 +311,12 @@ listed p = mapped as_listed (prefixed (codes " when ") (pair update (prefixed (c
 abbrev pub listed_follows : List ℕ → Bool
 listed_follows bytes = is_some (strip (codes " when [") bytes)
 
-abbrev pub as_placed : PhraseTree × ℕ → PlacedLine
+abbrev pub as_placed : SurfaceTermTree × ℕ → PlacedLine
 as_placed t = record { test = t.0; step = t.1 }
 
 -- a test and its step
 abbrev pub placed : LineReader PlacedLine
-placed p = mapped as_placed (pair phrase (prefixed (codes " at ") first_number) p)
+placed p = mapped as_placed (pair surface (prefixed (codes " at ") first_number) p)
 
 -- an equality that a window lists
 abbrev pub equated : LineReader PlacedLine
@@ -333,12 +333,12 @@ as_window w = record { left = w.0; right = w.1.0; updates = w.1.1.0; equalities 
 abbrev pub window_rest : LineReader WindowLine
 window_rest p = mapped as_window (pair left_side (pair placed (pair (repeat listed_follows listed) (repeat has_bytes equated))) p)
 
-abbrev pub as_branch : PhraseTree × (ℕ × ℕ) → NodeLine
+abbrev pub as_branch : SurfaceTermTree × (ℕ × ℕ) → NodeLine
 as_branch b = branch_line b.0 b.1.0 b.1.1
 
 -- a node that tests, after its ` if `
 abbrev pub branch_rest : LineReader NodeLine
-branch_rest p = mapped as_branch (pair phrase (pair (prefixed (codes " then ") first_number) (prefixed (codes " else ") first_number)) p)
+branch_rest p = mapped as_branch (pair surface (pair (prefixed (codes " then ") first_number) (prefixed (codes " else ") first_number)) p)
 
 abbrev pub as_assignment : List UpdateLine × ℕ → NodeLine
 as_assignment a = assignment_line a.0 a.1

@@ -5,10 +5,10 @@ use Rattle.std.specs.List.{list_all}
 use Rattle.tsl_text.specs.Names.{is_usable}
 use Rattle.tsl_terms.specs.WellFormed.{deepest}
 use Rattle.program_listing.specs.declared.listing.Name.{Name}
-use Rattle.program_listing.specs.ListingTree.{PhraseTree, bare, applied, PhraseTrees, no_phrases, more_phrases, UpdateLine, ListedLine}
+use Rattle.program_listing.specs.ListingTree.{SurfaceTermTree, bare, applied, SurfaceTermTrees, no_surfaces, more_surfaces, UpdateLine, ListedLine}
 use Rattle.program_listing.specs.ListingTree.{PlacedLine, WindowLine, NodeLine}
 use Rattle.program_listing.specs.ListingTree.{branch_line, assignment_line, ListingTree}
-use Rattle.program_listing.specs.LineText.{phrase_brackets}
+use Rattle.program_listing.specs.LineText.{surface_brackets}
 use Rattle.program_listing.specs.Listing.{name_bytes, declared}
 
 -- a name stands in the text, and may be a name
@@ -16,26 +16,26 @@ abbrev pub name_stands : List ℕ → Name → Bool
 name_stands text name = (nat_le name.start name.end && nat_le name.end (length text)) && is_usable (name_bytes text name)
 
 abbrev mutual
-  pub phrase_stands : List ℕ → PhraseTree → Bool
-  phrase_stands text (bare name) = name_stands text name
-  phrase_stands text (applied name arguments) = name_stands text name && phrases_stand text arguments
+  pub surface_stands : List ℕ → SurfaceTermTree → Bool
+  surface_stands text (bare name) = name_stands text name
+  surface_stands text (applied name arguments) = name_stands text name && surfaces_stand text arguments
 
-  pub phrases_stand : List ℕ → PhraseTrees → Bool
-  phrases_stand text no_phrases = true
-  phrases_stand text (more_phrases p ps) = phrase_stands text p && phrases_stand text ps
+  pub surfaces_stand : List ℕ → SurfaceTermTrees → Bool
+  surfaces_stand text no_surfaces = true
+  surfaces_stand text (more_surfaces p ps) = surface_stands text p && surfaces_stand text ps
 
--- the names of a phrase stand in the text, and its brackets nest at most 200 deep
-abbrev pub is_phrase : List ℕ → PhraseTree → Bool
-is_phrase text p = phrase_stands text p && nat_le (phrase_brackets p) deepest
+-- the names of a surface term stand in the text, and its brackets nest at most 200 deep
+abbrev pub is_surface : List ℕ → SurfaceTermTree → Bool
+is_surface text p = surface_stands text p && nat_le (surface_brackets p) deepest
 
 abbrev pub update_line_stands : List ℕ → UpdateLine → Bool
-update_line_stands text u = name_stands text u.signal && is_phrase text u.term
+update_line_stands text u = name_stands text u.signal && is_surface text u.term
 
 abbrev pub listed_line_stands : List ℕ → ListedLine → Bool
-listed_line_stands text u = name_stands text u.signal && is_phrase text u.term
+listed_line_stands text u = name_stands text u.signal && is_surface text u.term
 
 abbrev pub placed_line_stands : List ℕ → PlacedLine → Bool
-placed_line_stands text t = is_phrase text t.test
+placed_line_stands text t = is_surface text t.test
 
 abbrev pub left_line_stands : List ℕ → Option PlacedLine → Bool
 left_line_stands text (Some left) = placed_line_stands text left
@@ -47,7 +47,7 @@ window_line_stands text w =
     && (list_all (listed_line_stands text) w.updates && list_all (placed_line_stands text) w.equalities)
 
 abbrev pub node_line_stands : List ℕ → NodeLine → Bool
-node_line_stands text (branch_line test then_node else_node) = is_phrase text test
+node_line_stands text (branch_line test then_node else_node) = is_surface text test
 node_line_stands text (assignment_line updates go) = list_all (update_line_stands text) updates
 
 -- the names of all lines stand

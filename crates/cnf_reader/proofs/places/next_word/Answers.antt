@@ -1,7 +1,7 @@
 use Rattle.std.proofs.Common.{◌<◌, not, length, refl, ap, ◌∙◌, arith, rules}
 use Rattle.std.proofs.lemmas.List.{take_rest}
 use Rattle.tsl_text.specs.Lines.{is_blank}
-use Rattle.cnf_reader.specs.internal.Left.{begins_with_blank}
+use Rattle.cnf_reader.specs.internal.RestOfText.{begins_with_blank}
 use Rattle.cnf_reader.specs.internal.Reading.{answer_left}
 use Rattle.cnf_reader.proofs.PlaceLemmas.{all_pass, word_stands, cut_at}
 use Rattle.cnf_reader.proofs.places.next_word.Goals as goal

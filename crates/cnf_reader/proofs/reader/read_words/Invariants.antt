@@ -1,5 +1,5 @@
 use Rattle.std.proofs.Common.{◌≡◌, ℕ, List, length}
-use Rattle.cnf_reader.specs.internal.Left.{HasFewLines}
+use Rattle.cnf_reader.specs.internal.RestOfText.{HasFewLines}
 use Rattle.cnf_reader.specs.internal.Places.{tells, answer_from}
 use Rattle.cnf_reader.proofs.reader.read_words.Given as goal
 

@@ -1,6 +1,6 @@
 use Rattle.std.proofs.Common.{rules}
 use Rattle.std.proofs.lemmas.Bool.{and_parts}
-use Rattle.program_listing.specs.declared.listing.PhraseList.{the_lemmas}
+use Rattle.program_listing.specs.declared.listing.SurfaceTermList.{the_lemmas}
 use Rattle.flow_program.proofs.uses.+term_uses.Goals as goal
 
 pub add_term-applied_use-requires : goal.add_term-applied_use-requires

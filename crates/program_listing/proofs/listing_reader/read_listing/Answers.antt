@@ -17,8 +17,8 @@ loop-left-init c =
       same = λ i. rest_of (record { at = (here i).at; names = c.new-names.ensures i; progress = fresh }) 1 (here i).bytes;
     }
 
-pub next_line-requires-clause-room : goal.next_line-requires-clause-room
-next_line-requires-clause-room c =
+pub next_line-requires-clause-levels_left : goal.next_line-requires-clause-levels_left
+next_line-requires-clause-levels_left c =
     omega (arith, c.loop-left.invariant.few_names, c.loop-left.invariant.few_lines, c.loop-left.left.countable)
 
 pub next_line-requires-clause-empty : goal.next_line-requires-clause-empty

@@ -11,47 +11,47 @@ use Rattle.spec_syntax.proofs.formulas.+read.Goals as goal
 
 pub form_below-returns-in-len1-up : goal.form_below-returns-in-len1-up
 form_below-returns-in-len1-up t c =
-    reads_as formula_syntax (below (lower c.args.room) (reader_of c.args.form)) (form_with c.args.form (lower c.in_ok-below.below))
+    reads_as formula_syntax (below (lower c.args.levels_left) (reader_of c.args.form)) (form_with c.args.form (lower c.in_ok-below.below))
     c.args.xs.now (take (length c.args.xs.now - 1) (drop 1 c.args.xs.now)) c.form_with.result
-    (form_after_first c.args.room c.in_ok-below.below c.args.form c.args.xs.now c.in_ok-below.ensures.ok c.in-len1-up.len_at_least)
+    (form_after_first c.args.levels_left c.in_ok-below.below c.args.form c.args.xs.now c.in_ok-below.ensures.ok c.in-len1-up.len_at_least)
     c.form_with.ensures
 
 pub bracketed_formula-returns-in_err-rest : goal.bracketed_formula-returns-in_err-rest
 bracketed_formula-returns-in_err-rest t c =
-    passed_on formula_syntax (below (lower c.args.room) bracketed_formula) c.args.xs.now _ _ c.from_residual-in_err-rest.ensures.1
-    (formula_unclosed (lower c.args.room) (terminals_view c.args.xs.now) _ _ _ c.in_ok-formula.ensures c.in_err-rest.ensures)
+    passed_on formula_syntax (below (lower c.args.levels_left) bracketed_formula) c.args.xs.now _ _ c.from_residual-in_err-rest.ensures.1
+    (formula_unclosed (lower c.args.levels_left) (terminals_view c.args.xs.now) _ _ _ c.in_ok-formula.ensures c.in_err-rest.ensures)
 
 pub bracketed_formula-returns : goal.bracketed_formula-returns
 bracketed_formula-returns t c =
-    formula_in_brackets (lower c.args.room) (terminals_view c.args.xs.now) _ _ _ c.in_ok-formula.ensures c.in_ok-rest.ensures
+    formula_in_brackets (lower c.args.levels_left) (terminals_view c.args.xs.now) _ _ _ c.in_ok-formula.ensures c.in_ok-rest.ensures
 
 pub operands-returns-in_err-operand : goal.operands-returns-in_err-operand
 operands-returns-in_err-operand t c =
-    passed_on listed_syntax (members (further c.args.op (operand_with c.args.op (lower c.args.room)))) c.args.xs.now _ _
+    passed_on listed_syntax (members (further c.args.op (operand_with c.args.op (lower c.args.levels_left)))) c.args.xs.now _ _
     c.from_residual.ensures.1
-    (member_found_fault formula_syntax (further c.args.op (operand_with c.args.op (lower c.args.room)))
-    (further_shrinks c.args.op c.args.room) (terminals_view c.loop-rest.left.terminals.now)
+    (member_found_fault formula_syntax (further c.args.op (operand_with c.args.op (lower c.args.levels_left)))
+    (further_shrinks c.args.op c.args.levels_left) (terminals_view c.loop-rest.left.terminals.now)
     (map formula_syntax c.loop-rest.operands.items) _ _ _ c.loop-rest.invariant
-    (c.in-Some.ensures (operand_with c.args.op (lower c.args.room))) c.in_err-operand.ensures)
+    (c.in-Some.ensures (operand_with c.args.op (lower c.args.levels_left))) c.in_err-operand.ensures)
 
 pub operands-loop-rest-preserved : goal.operands-loop-rest-preserved
 operands-loop-rest-preserved t c =
     rw c.in_ok-push.ensures.items
-    (members_more formula_syntax (further c.args.op (operand_with c.args.op (lower c.args.room)))
-    (further_shrinks c.args.op c.args.room) (terminals_view c.loop-rest.left.terminals.now)
+    (members_more formula_syntax (further c.args.op (operand_with c.args.op (lower c.args.levels_left)))
+    (further_shrinks c.args.op c.args.levels_left) (terminals_view c.loop-rest.left.terminals.now)
     (terminals_view c.in_ok-operand.rest.now) c.loop-rest.operands.items c.in_ok-operand.operand
-    (c.in-Some.ensures (operand_with c.args.op (lower c.args.room)) ∙ ap (λ answer. Some answer) c.in_ok-operand.ensures))
+    (c.in-Some.ensures (operand_with c.args.op (lower c.args.levels_left)) ∙ ap (λ answer. Some answer) c.in_ok-operand.ensures))
     ∙ c.loop-rest.invariant
 
 pub operands-loop-rest-smaller : goal.operands-loop-rest-smaller
 operands-loop-rest-smaller t c =
-    member_shortens formula_syntax (further c.args.op (operand_with c.args.op (lower c.args.room)))
-    (further_shrinks c.args.op c.args.room) c.loop-rest.left.terminals.now c.in_ok-operand.rest.now _
-    (c.in-Some.ensures (operand_with c.args.op (lower c.args.room)) ∙ ap (λ answer. Some answer) c.in_ok-operand.ensures)
+    member_shortens formula_syntax (further c.args.op (operand_with c.args.op (lower c.args.levels_left)))
+    (further_shrinks c.args.op c.args.levels_left) c.loop-rest.left.terminals.now c.in_ok-operand.rest.now _
+    (c.in-Some.ensures (operand_with c.args.op (lower c.args.levels_left)) ∙ ap (λ answer. Some answer) c.in_ok-operand.ensures)
 
 pub operands-returns : goal.operands-returns
 operands-returns t c =
     sym c.loop-rest.invariant
-    ∙ members_end formula_syntax (further c.args.op (operand_with c.args.op (lower c.args.room)))
-    (further_shrinks c.args.op c.args.room) (terminals_view c.loop-rest.left.terminals.now)
-    (map formula_syntax c.loop-rest.operands.items) (c.in_default.ensures (operand_with c.args.op (lower c.args.room)))
+    ∙ members_end formula_syntax (further c.args.op (operand_with c.args.op (lower c.args.levels_left)))
+    (further_shrinks c.args.op c.args.levels_left) (terminals_view c.loop-rest.left.terminals.now)
+    (map formula_syntax c.loop-rest.operands.items) (c.in_default.ensures (operand_with c.args.op (lower c.args.levels_left)))

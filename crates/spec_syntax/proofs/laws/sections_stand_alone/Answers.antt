@@ -3,10 +3,10 @@ use Rattle.spec_syntax.proofs.DeclarationLaws.{sections_derive, only_sections, s
 use Rattle.spec_syntax.proofs.laws.sections_stand_alone.Goals as goal
 
 pub returns-clause-derived : goal.returns-clause-derived
-returns-clause-derived c room xs own a h = sections_derive h
+returns-clause-derived c levels_left xs own a h = sections_derive h
 
 pub returns-clause-only : goal.returns-clause-only
-returns-clause-only c room xs own a h = only_sections h a refl
+returns-clause-only c levels_left xs own a h = only_sections h a refl
 
 pub returns-clause-all : goal.returns-clause-all
-returns-clause-all c room xs a h = sections_are_all h
+returns-clause-all c levels_left xs a h = sections_are_all h

@@ -7,8 +7,8 @@ use Rattle.spec_syntax.proofs.section_reader.formulas.Given as goal
 -- the formulas so far, and then those of the terminals that are left
 abbrev pub invariant-loop-alloc : goal.invariant-loop-alloc
 invariant-loop-alloc l =
-    iterate (item l.room) (open_items (map formula_syntax l.formulas.items)) (terminals_view l.left.terminals.now)
-    ≡ iterate (item l.room) (open_items []) (terminals_view l.fn.xs)
+    iterate (item l.levels_left) (open_items (map formula_syntax l.formulas.items)) (terminals_view l.left.terminals.now)
+    ≡ iterate (item l.levels_left) (open_items []) (terminals_view l.fn.xs)
 
 abbrev pub decreases-loop-alloc : goal.decreases-loop-alloc
 decreases-loop-alloc l = length l.left.terminals.now

@@ -11,11 +11,11 @@ pub returns-in_err-rest-in-Mark : goal.returns-in_err-rest-in-Mark
 returns-in_err-rest-in-Mark c =
     let xs = c.args.xs.now in
     let front : terminals_view xs ≡ mark OpenBrace ∷ terminals_view (take (length xs - 1) (drop 1 xs)) = grind (arith, common_steps) in
-    passed_on section_syntax (items c.args.room c.args.part) xs _ _ c.from_residual-in_err-rest-in-Mark.ensures.1
-    (rw front (items_unclosed c.args.room c.args.part _ _ _ _ c.in_ok-formulas-in-Mark.ensures c.in_err-rest-in-Mark.ensures))
+    passed_on section_syntax (items c.args.levels_left c.args.part) xs _ _ c.from_residual-in_err-rest-in-Mark.ensures.1
+    (rw front (items_unclosed c.args.levels_left c.args.part _ _ _ _ c.in_ok-formulas-in-Mark.ensures c.in_err-rest-in-Mark.ensures))
 
 pub returns-in_ok-rest-in-Mark : goal.returns-in_ok-rest-in-Mark
 returns-in_ok-rest-in-Mark c =
     let xs = c.args.xs.now in
     let front : terminals_view xs ≡ mark OpenBrace ∷ terminals_view (take (length xs - 1) (drop 1 xs)) = grind (arith, common_steps) in
-    rw front (items_read c.args.room c.args.part _ _ _ _ c.in_ok-formulas-in-Mark.ensures c.in_ok-rest-in-Mark.ensures)
+    rw front (items_read c.args.levels_left c.args.part _ _ _ _ c.in_ok-formulas-in-Mark.ensures c.in_ok-rest-in-Mark.ensures)

@@ -21,21 +21,21 @@ use Rattle.spec_syntax.proofs.terms.+read.Goals as goal
 pub after_name-returns-in_err-next : goal.after_name-returns-in_err-next
 unfolding after_name
 after_name-returns-in_err-next t c =
-    passed_on arguments_syntax (after_name (lower c.args.room)) c.args.xs.now _ _ c.from_residual.ensures.1
-    (arguments_fault c.args.room (arguments_view c.loop-arguments.arguments) (terminals_view c.loop-arguments.left.terminals.now)
+    passed_on arguments_syntax (after_name (lower c.args.levels_left)) c.args.xs.now _ _ c.from_residual.ensures.1
+    (arguments_fault c.args.levels_left (arguments_view c.loop-arguments.arguments) (terminals_view c.loop-arguments.left.terminals.now)
     (terminals_view c.args.xs.now) _
     (sym c.goes_on.ensures ∙ c.loop-arguments-test.true) c.in_err-next.ensures c.loop-arguments.invariant)
 
 pub after_name-loop-arguments-preserved : goal.after_name-loop-arguments-preserved
 after_name-loop-arguments-preserved t c =
-    arguments_more c.args.room (arguments_view c.loop-arguments.arguments) (arguments_view c.in_ok-next.next)
+    arguments_more c.args.levels_left (arguments_view c.loop-arguments.arguments) (arguments_view c.in_ok-next.next)
     (terminals_view c.loop-arguments.left.terminals.now)
     (terminals_view c.in_ok-next.rest.now) (sym c.goes_on.ensures ∙ c.loop-arguments-test.true) c.in_ok-next.ensures
     ∙ c.loop-arguments.invariant
 
 pub after_name-loop-arguments-smaller : goal.after_name-loop-arguments-smaller
 after_name-loop-arguments-smaller t c =
-    arguments_shorten c.args.room (arguments_view c.loop-arguments.arguments) (arguments_view c.in_ok-next.next)
+    arguments_shorten c.args.levels_left (arguments_view c.loop-arguments.arguments) (arguments_view c.in_ok-next.next)
     c.loop-arguments.left.terminals.now c.in_ok-next.rest.now (sym c.goes_on.ensures ∙ c.loop-arguments-test.true) c.in_ok-next.ensures
 
 pub after_name-returns : goal.after_name-returns
@@ -43,41 +43,41 @@ unfolding after_name
 after_name-returns t c =
     rw c.in_ok-terms.ensures
     (ap (map_read arguments_of) (sym c.loop-arguments.invariant
-    ∙ arguments_end c.args.room (arguments_view c.loop-arguments.arguments) (terminals_view c.loop-arguments.left.terminals.now)
+    ∙ arguments_end c.args.levels_left (arguments_view c.loop-arguments.arguments) (terminals_view c.loop-arguments.left.terminals.now)
     (sym c.goes_on.ensures ∙ c.loop-arguments-test.false)))
 
 pub opened-returns-in_err-term-in-Some : goal.opened-returns-in_err-term-in-Some
 opened-returns-in_err-term-in-Some t c =
     let other : begins_close (terminals_view c.args.xs.now) ≡ false = grind (arith, common_steps) in
-    passed_on (option_map term_syntax) (opened (lower c.args.room)) c.args.xs.now _ _ c.from_residual.ensures.1
-    (opened_fault c.args.room c.in-Some.below
+    passed_on (option_map term_syntax) (opened (lower c.args.levels_left)) c.args.xs.now _ _ c.from_residual.ensures.1
+    (opened_fault c.args.levels_left c.in-Some.below
     (terminals_view c.args.xs.now) _ c.in-Some.ensures.some other c.in_err-term-in-Some.ensures)
 
 pub opened-returns-in-None : goal.opened-returns-in-None
 opened-returns-in-None t c =
     let other : begins_close (terminals_view c.args.xs.now) ≡ false = grind (arith, common_steps) in
-    not_opened c.args.room c.args.xs.now c.beyond.result c.in-None.ensures.none other c.beyond.ensures
+    not_opened c.args.levels_left c.args.xs.now c.beyond.result c.in-None.ensures.none other c.beyond.ensures
 
 pub opened-returns-in_ok-term-in-Some : goal.opened-returns-in_ok-term-in-Some
 opened-returns-in_ok-term-in-Some t c =
     let other : begins_close (terminals_view c.args.xs.now) ≡ false = grind (arith, common_steps) in
-    opened_read c.args.room c.in-Some.below (terminals_view c.args.xs.now) _ _ c.in-Some.ensures.some other c.in_ok-term-in-Some.ensures
+    opened_read c.args.levels_left c.in-Some.below (terminals_view c.args.xs.now) _ _ c.in-Some.ensures.some other c.in_ok-term-in-Some.ensures
 
 pub term_then_bracket-returns-in_err-term : goal.term_then_bracket-returns-in_err-term
 unfolding above
 term_then_bracket-returns-in_err-term t c =
-    passed_on term_syntax (bracketed_term (above (lower c.args.room))) c.args.xs.now _ _ c.from_residual.ensures.1
-    (then_fault (term_with (lower c.args.room) (terminals_view c.args.xs.now)) (closing is_close_round) _ c.in_err-term.ensures)
+    passed_on term_syntax (bracketed_term (above (lower c.args.levels_left))) c.args.xs.now _ _ c.from_residual.ensures.1
+    (then_fault (term_with (lower c.args.levels_left) (terminals_view c.args.xs.now)) (closing is_close_round) _ c.in_err-term.ensures)
 
 pub term_then_bracket-returns-in_err-rest : goal.term_then_bracket-returns-in_err-rest
 unfolding above
 term_then_bracket-returns-in_err-rest t c =
-    passed_on term_syntax (bracketed_term (above (lower c.args.room))) c.args.xs.now _ _ c.from_residual-in_err-rest.ensures.1
-    (closed_fault is_close_round (term_with (lower c.args.room))
+    passed_on term_syntax (bracketed_term (above (lower c.args.levels_left))) c.args.xs.now _ _ c.from_residual-in_err-rest.ensures.1
+    (closed_fault is_close_round (term_with (lower c.args.levels_left))
     (terminals_view c.args.xs.now) _ _ _ c.in_ok-term.ensures c.in_err-rest.ensures)
 
 pub term_then_bracket-returns : goal.term_then_bracket-returns
 unfolding above
 term_then_bracket-returns t c =
-    closed_read is_close_round (term_with (lower c.args.room))
+    closed_read is_close_round (term_with (lower c.args.levels_left))
     (terminals_view c.args.xs.now) _ _ _ c.in_ok-term.ensures c.in_ok-rest.ensures

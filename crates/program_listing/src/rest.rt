@@ -7,7 +7,7 @@ use std::alloc::AllocFailed;
 
 /// What is left of a line.
 #[derive(Clone, Copy)]
-pub struct Left<'a> {
+pub struct Rest<'a> {
     /// The offset of its first byte in the text.
     pub at: u32,
     /// Its bytes.
@@ -17,34 +17,34 @@ pub struct Left<'a> {
 
 /// Why nothing is read.
 #[derive(Drop)]
-pub enum Misread {
+pub enum LineError {
     /// What is to be read does not stand at the front.
     Form,
     /// Memory ran out.
     NoMemory,
 }
 
-impl From<NoMemory> for Misread {
+impl From<NoMemory> for LineError {
     ghost use Rattle.std.specs.Prelude.{◌≡◌};
-    ghost use Rattle.program_listing.specs.declared.left.Misread.TheVariants.{NoMemory as Exhausted};
+    ghost use Rattle.program_listing.specs.declared.rest.LineError.TheVariants.{NoMemory as Exhausted};
 
     ghost from_gives = { λ _ e. e ≡ Exhausted };
 
-    fn from(_error: NoMemory) -> Misread {
-        Misread::NoMemory
+    fn from(_error: NoMemory) -> LineError {
+        LineError::NoMemory
     }
 }
 
-impl<T: Drop> From<AllocFailed<T>> for Misread {
+impl<T: Drop> From<AllocFailed<T>> for LineError {
     ghost use Rattle.std.specs.Prelude.{◌≡◌};
-    ghost use Rattle.program_listing.specs.declared.left.Misread.TheVariants.{NoMemory as Exhausted};
+    ghost use Rattle.program_listing.specs.declared.rest.LineError.TheVariants.{NoMemory as Exhausted};
 
     ghost from_gives = { λ _ e. e ≡ Exhausted };
 
-    fn from(_error: AllocFailed<T>) -> Misread {
-        Misread::NoMemory
+    fn from(_error: AllocFailed<T>) -> LineError {
+        LineError::NoMemory
     }
 }
 
 /// What was read, and what is left after it.
-pub type Reading<'a, V> = Result<(V, Left<'a>), Misread>;
+pub type Reading<'a, V> = Result<(V, Rest<'a>), LineError>;

@@ -9,7 +9,7 @@ use Rattle.tsl_text.specs.Written.{is_line}
 use Rattle.tsl_text.proofs.FieldLaws.{words_word, IsWordEnd, is_word, IsStop}
 use Rattle.tsl_text.proofs.LineLaws.{from_feed, from_cut, split_feed}
 use Rattle.refutation_check.specs.DataLines.{is_comment}
-use Rattle.cnf_reader.specs.internal.Left.{data_lines_from, line_rest, later_lines, EndsWord}
+use Rattle.cnf_reader.specs.internal.RestOfText.{data_lines_from, line_rest, later_lines, EndsWord}
 
 -- ---- a word
 
