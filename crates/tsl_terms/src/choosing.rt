@@ -133,7 +133,7 @@ fn reads(atom: &AtomRef, signal: u32) -> bool
 
 /// Whether a term reads a signal.
 #[cycle(term_reads)]
-fn term_reads(term: &Term, signal: u32) -> bool
+pub fn term_reads(term: &Term, signal: u32) -> bool
     ensures { result ≡ term_reads signal (term_tree term.now) }
 {
     match term {
@@ -144,7 +144,7 @@ fn term_reads(term: &Term, signal: u32) -> bool
 
 /// Whether some term of a list reads a signal.
 #[cycle(term_reads)]
-fn some_term_reads(terms: &TermList, signal: u32) -> bool
+pub fn some_term_reads(terms: &TermList, signal: u32) -> bool
     ensures { result ≡ some_term_reads signal (term_trees terms.now) }
 {
     let mut rest = terms;

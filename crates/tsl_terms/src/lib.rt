@@ -18,7 +18,8 @@
 //! - `atoms` gives what a formula tests and updates, from the left, and `atoms_of_spec` that of a whole
 //!   formula. What a formula reads, updates and is made of are folds of this list.
 //! - `whole` gives the formula that a specification stands for, `signals` its inputs, cells and outputs,
-//!   `choices` the terms that a signal may take, and `predicates` the probes, each exactly as defined.
+//!   `choices` the terms that a signal may take, and `predicates` the probes, each exactly as defined. `term_reads` and
+//!   `some_term_reads` say whether terms read a signal.
 //! - `window_formula` gives the formula that holds in a run exactly where a window does, and `under` a
 //!   formula under the assumption of windows.
 //! - `node_count` counts nodes, and stops at the largest number; `whole_node_count` counts those of the
@@ -56,7 +57,7 @@ mod window;
 mod window_formulas;
 
 pub use atom::{AtomRef, atoms, atoms_of_spec};
-pub use choosing::choices;
+pub use choosing::{choices, some_term_reads, term_reads};
 pub use clash::{NameUse, Quality, first_clash, first_uses};
 pub use copy::{copy_formula, copy_probe, copy_term, copy_window};
 pub use counting::{node_count, whole_node_count};
