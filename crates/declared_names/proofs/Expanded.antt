@@ -31,7 +31,7 @@ use Rattle.named_formulas.specs.internal.UseNumbers.{used_names}
 use Rattle.named_formulas.proofs.NamedLemmas.{named_at}
 use Rattle.named_formulas.proofs.NoNewUses.{no_new_use}
 use Rattle.named_formulas.proofs.LevelLaws.{expansion_derives, expansion_needs, uses_are_within, formula_is_within}
-use Rattle.named_formulas.proofs.SizeLemmas.{StoppedAt, formula_stopped, depths_stop}
+use Rattle.named_formulas.proofs.SizeLemmas.{formula_stopped, depths_stop}
 use Rattle.named_formulas.proofs.SectionExpansion.{sections_expand, one_expansion_of_sections}
 use Rattle.declared_names.specs.Heads.{head_of, definitions_in, heads_in}
 use Rattle.declared_names.specs.Occurrences.{Occurrence, of_section, of_body, formula_occurrences, section_occurrences}
@@ -176,7 +176,7 @@ module _ (ds : List Declaration) (well : AreNamedWell ds) where
         formula_is_within deepest_level needs 0 f (omega (arith, shallow)) fitting in
         let same : min LEVELS_STOP (fold_by depths needs f) ≡ min LEVELS_STOP (fold_by depths (number_in depths defined) f) =
         formula_stopped LEVELS_STOP depths (depths_stop LEVELS_STOP) needs (number_in depths defined) f
-        (each_from_places (StoppedAt LEVELS_STOP depths (depths_stop LEVELS_STOP) needs (number_in depths defined)) (used_names f) (λ i x at. are x)) in
+        (each_from_places _ (used_names f) (λ i x at. are x)) in
         expansion_derives named (bodies derived) count f derivable deepest_level (omega (arith, stopped, same))
 
     formulas_derive : (levels : List ℕ) → AreLevels (heads_of ds) levels defined → (fs : List FormulaSyntax) →

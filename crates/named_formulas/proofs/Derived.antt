@@ -1,5 +1,5 @@
 -- A formula in which each use is replaced by something that derives as an atom derives with the levels that it needs.
-use Rattle.std.proofs.Common.{◌≡◌, ℕ, zero, suc, ◌≤◌, max, List, [], ◌∷◌, map, Option, Some, None, refl, ap, sym, ◌∙◌, subst, arith}
+use Rattle.std.proofs.Common.{◌≡◌, ℕ, zero, suc, ◌≤◌, max, List, [], ◌∷◌, ◌++◌, map, Option, Some, None, refl, ap, sym, ◌∙◌, subst, arith}
 use Rattle.std.proofs.lemmas.List.{append-nil}
 use Rattle.tsl_terms.specs.declared.operator.UnaryOperator.{UnaryOperator}
 use Rattle.tsl_terms.specs.declared.operator.UnaryOperator.TheVariants.{Negation, Next, Finally, Globally}
@@ -17,7 +17,6 @@ use Rattle.spec_syntax.specs.Grammar.{bare_name, no_argument, test}
 use Rattle.spec_syntax.specs.Written.{sign_under, sign_between, written_term, written_terms, written, written_further}
 use Rattle.spec_syntax.specs.Levels.{term_depth, terms_depth, depth, members_depth}
 use Rattle.named_formulas.specs.Expansion.{Replacing, put_for, passed_names, renamed_term, renamed_terms, replacing_test, expanded, expanded_members}
-use Rattle.named_formulas.specs.Derivable.{FormulaDerives}
 use Rattle.spec_syntax.proofs.Written.{join_written, join_depth, sign_of_temporal, temporal_sides}
 
 -- this derives from what it is written with
@@ -72,17 +71,24 @@ PutsAtoms replacing =
     (x : List ℕ) (ys : List (List ℕ)) (f : FormulaSyntax) (n : ℕ) → replacing x ys ≡ Some f → depth f ≤ n → AtomDerives n f
 
 module _ (replacing : Replacing) (atoms : PutsAtoms replacing) (stands_for : List ℕ → List ℕ) where
-  listed_expanded : (fs : List FormulaSyntax) → expanded_members replacing stands_for (listed_formulas fs)
-      ≡ listed_formulas (map (expanded replacing stands_for) fs)
-  listed_expanded [] = refl
-  listed_expanded (f ∷ fs) = ap (more_formulas (expanded replacing stands_for f)) (listed_expanded fs)
+  abbrev whole : FormulaSyntax → FormulaSyntax
+  whole = expanded replacing stands_for
 
-  join_expanded : (op : ManyOperator) (a : FormulaSyntax) (fs : List FormulaSyntax) →
-      expanded replacing stands_for (join op a fs) ≡ join op (expanded replacing stands_for a) (map (expanded replacing stands_for) fs)
+  abbrev wholes : List FormulaSyntax → List FormulaSyntax
+  wholes = map whole
+
+  -- what stands for this derives from what it is written with
+  abbrev Here : (ℕ → List Terminal → FormulaSyntax → Type 0) → ℕ → FormulaSyntax → Type 0
+  Here Is n a = Is n (written (whole a)) (whole a)
+
+  listed_expanded : (fs : List FormulaSyntax) → expanded_members replacing stands_for (listed_formulas fs) ≡ listed_formulas (wholes fs)
+  listed_expanded [] = refl
+  listed_expanded (f ∷ fs) = ap (more_formulas (whole f)) (listed_expanded fs)
+
+  join_expanded : (op : ManyOperator) (a : FormulaSyntax) (fs : List FormulaSyntax) → whole (join op a fs) ≡ join op (whole a) (wholes fs)
   join_expanded op a [] = refl
   join_expanded op a (g ∷ gs) =
-      ap (λ hs. joined op (more_formulas (expanded replacing stands_for a) (more_formulas (expanded replacing stands_for g) hs)))
-      (listed_expanded gs)
+      ap (λ hs. joined op (more_formulas (whole a) (more_formulas (whole g) hs))) (listed_expanded gs)
 
   put_derives : (o : Option FormulaSyntax) (a : FormulaSyntax) (n : ℕ) → ((f : FormulaSyntax) → o ≡ Some f → depth f ≤ n → AtomDerives n f)
       → (depth a ≤ n → AtomDerives n a) → depth (put_for o a) ≤ n → AtomDerives n (put_for o a)
@@ -95,79 +101,67 @@ module _ (replacing : Replacing) (atoms : PutsAtoms replacing) (stands_for : Lis
   tested_put p (Some ys) n f h few = atoms p _ f n h few
 
   join_both : (op : ManyOperator) (a : FormulaSyntax) (fs : List FormulaSyntax) (n : ℕ) →
-      depth (expanded replacing stands_for (join op a fs)) ≤ n → (depth (expanded replacing stands_for a) ≤ n)
-      × (members_depth (listed_formulas (map (expanded replacing stands_for) fs)) ≤ n)
+      depth (whole (join op a fs)) ≤ n → (depth (whole a) ≤ n) × (members_depth (listed_formulas (wholes fs)) ≤ n)
   join_both op a fs n few =
-      let e : depth (expanded replacing stands_for (join op a fs))
-      ≡ max (depth (expanded replacing stands_for a)) (members_depth (listed_formulas (map (expanded replacing stands_for) fs))) =
-      ap depth (join_expanded op a fs) ∙ join_depth op (expanded replacing stands_for a) (map (expanded replacing stands_for) fs) in
+      let e : depth (whole (join op a fs)) ≡ max (depth (whole a)) (members_depth (listed_formulas (wholes fs))) =
+      ap depth (join_expanded op a fs) ∙ join_depth op (whole a) (wholes fs) in
       (omega (arith, few, e), omega (arith, few, e))
 
+  join_here : (Is : ℕ → List Terminal → FormulaSyntax → Type 0) (op : ManyOperator) (a : FormulaSyntax) (fs : List FormulaSyntax) (n : ℕ) →
+      Is n (written (whole a) ++ written_further op (listed_formulas (wholes fs))) (join op (whole a) (wholes fs)) → Here Is n (join op a fs)
+  join_here Is op a fs n h =
+      subst (λ b. Is n (written b) b) (sym (join_expanded op a fs))
+      (subst (λ xs. Is n xs (join op (whole a) (wholes fs))) (sym (join_written op (whole a) (wholes fs))) h)
+
   mutual
-    pub formula_derives : {r : ℕ} {xs : List Terminal} {a : FormulaSyntax} (n : ℕ) → IsFormula r xs a →
-        depth (expanded replacing stands_for a) ≤ n → FormulaDerives n (expanded replacing stands_for a)
+    pub formula_derives : {r : ℕ} {xs : List Terminal} {a : FormulaSyntax} (n : ℕ) → IsFormula r xs a → depth (whole a) ≤ n → Here IsFormula n a
     formula_derives n (temporal {a = a} {b = b} op t is h k) few =
-        let sides : max (depth (expanded replacing stands_for a)) (depth (expanded replacing stands_for b)) ≤ n =
-        omega (arith, temporal_sides t op (depth (expanded replacing stands_for a)) (depth (expanded replacing stands_for b)) is, few) in
+        let sides : max (depth (whole a)) (depth (whole b)) ≤ n =
+        omega (arith, temporal_sides t op (depth (whole a)) (depth (whole b)) is, few) in
         temporal op (sign_between op) (ap temporal_of (sym (sign_of_temporal t op is)) ∙ is)
         (prefix_derives n h (omega (arith, sides))) (prefix_derives n k (omega (arith, sides)))
     formula_derives n (chained h) few = chained (iff_derives n h few)
 
-    iff_derives : {r : ℕ} {xs : List Terminal} {a : FormulaSyntax} (n : ℕ) → IsIff r xs a →
-        depth (expanded replacing stands_for a) ≤ n → IsIff n (written (expanded replacing stands_for a)) (expanded replacing stands_for a)
+    iff_derives : {r : ℕ} {xs : List Terminal} {a : FormulaSyntax} (n : ℕ) → IsIff r xs a → depth (whole a) ≤ n → Here IsIff n a
     iff_derives n (no_iff h) few = no_iff (imp_derives n h few)
     iff_derives zero (iff h k) few = absurd (omega (arith, few))
     iff_derives (suc n) (iff h k) few = iff (imp_derives (suc n) h (omega (arith, few))) (iff_derives n k (omega (arith, few)))
 
-    imp_derives : {r : ℕ} {xs : List Terminal} {a : FormulaSyntax} (n : ℕ) → IsImp r xs a →
-        depth (expanded replacing stands_for a) ≤ n → IsImp n (written (expanded replacing stands_for a)) (expanded replacing stands_for a)
+    imp_derives : {r : ℕ} {xs : List Terminal} {a : FormulaSyntax} (n : ℕ) → IsImp r xs a → depth (whole a) ≤ n → Here IsImp n a
     imp_derives n (no_imp h) few = no_imp (or_derives n h few)
     imp_derives zero (imp h k) few = absurd (omega (arith, few))
     imp_derives (suc n) (imp h k) few = imp (or_derives (suc n) h (omega (arith, few))) (imp_derives n k (omega (arith, few)))
 
-    or_derives : {r : ℕ} {xs : List Terminal} {a : FormulaSyntax} (n : ℕ) → IsOr r xs a →
-        depth (expanded replacing stands_for a) ≤ n → IsOr n (written (expanded replacing stands_for a)) (expanded replacing stands_for a)
+    or_derives : {r : ℕ} {xs : List Terminal} {a : FormulaSyntax} (n : ℕ) → IsOr r xs a → depth (whole a) ≤ n → Here IsOr n a
     or_derives n (disjunction {a = a} {fs = fs} h k) few =
         let both = join_both Disjunction a fs n few in
-        subst (λ b. IsOr n (written b) b) (sym (join_expanded Disjunction a fs))
-        (subst (λ xs. IsOr n xs (join Disjunction (expanded replacing stands_for a) (map (expanded replacing stands_for) fs)))
-        (sym (join_written Disjunction (expanded replacing stands_for a) (map (expanded replacing stands_for) fs)))
-        (disjunction (and_derives n h both.0) (disjuncts_derive n k both.1)))
+        join_here IsOr Disjunction a fs n (disjunction (and_derives n h both.0) (disjuncts_derive n k both.1))
 
     disjuncts_derive : {r : ℕ} {xs : List Terminal} {fs : List FormulaSyntax} (n : ℕ) → AreDisjuncts r xs fs →
-        members_depth (listed_formulas (map (expanded replacing stands_for) fs)) ≤ n →
-        AreDisjuncts n (written_further Disjunction (listed_formulas (map (expanded replacing stands_for) fs)))
-        (map (expanded replacing stands_for) fs)
+        members_depth (listed_formulas (wholes fs)) ≤ n →
+        AreDisjuncts n (written_further Disjunction (listed_formulas (wholes fs))) (wholes fs)
     disjuncts_derive n no_disjunct few = no_disjunct
     disjuncts_derive n (more_disjuncts h k) few =
         more_disjuncts (and_derives n h (omega (arith, few))) (disjuncts_derive n k (omega (arith, few)))
 
-    and_derives : {r : ℕ} {xs : List Terminal} {a : FormulaSyntax} (n : ℕ) → IsAnd r xs a →
-        depth (expanded replacing stands_for a) ≤ n → IsAnd n (written (expanded replacing stands_for a)) (expanded replacing stands_for a)
+    and_derives : {r : ℕ} {xs : List Terminal} {a : FormulaSyntax} (n : ℕ) → IsAnd r xs a → depth (whole a) ≤ n → Here IsAnd n a
     and_derives n (conjunction {a = a} {fs = fs} h k) few =
         let both = join_both Conjunction a fs n few in
-        subst (λ b. IsAnd n (written b) b) (sym (join_expanded Conjunction a fs))
-        (subst (λ xs. IsAnd n xs (join Conjunction (expanded replacing stands_for a) (map (expanded replacing stands_for) fs)))
-        (sym (join_written Conjunction (expanded replacing stands_for a) (map (expanded replacing stands_for) fs)))
-        (conjunction (prefix_derives n h both.0) (conjuncts_derive n k both.1)))
+        join_here IsAnd Conjunction a fs n (conjunction (prefix_derives n h both.0) (conjuncts_derive n k both.1))
 
     conjuncts_derive : {r : ℕ} {xs : List Terminal} {fs : List FormulaSyntax} (n : ℕ) → AreConjuncts r xs fs →
-        members_depth (listed_formulas (map (expanded replacing stands_for) fs)) ≤ n →
-        AreConjuncts n (written_further Conjunction (listed_formulas (map (expanded replacing stands_for) fs)))
-        (map (expanded replacing stands_for) fs)
+        members_depth (listed_formulas (wholes fs)) ≤ n →
+        AreConjuncts n (written_further Conjunction (listed_formulas (wholes fs))) (wholes fs)
     conjuncts_derive n no_conjunct few = no_conjunct
     conjuncts_derive n (more_conjuncts h k) few =
         more_conjuncts (prefix_derives n h (omega (arith, few))) (conjuncts_derive n k (omega (arith, few)))
 
-    prefix_derives : {r : ℕ} {xs : List Terminal} {a : FormulaSyntax} (n : ℕ) → IsPrefix r xs a →
-        depth (expanded replacing stands_for a) ≤ n → IsPrefix n (written (expanded replacing stands_for a))
-        (expanded replacing stands_for a)
+    prefix_derives : {r : ℕ} {xs : List Terminal} {a : FormulaSyntax} (n : ℕ) → IsPrefix r xs a → depth (whole a) ≤ n → Here IsPrefix n a
     prefix_derives zero (prefix op t is h) few = absurd (omega (arith, few))
     prefix_derives (suc n) (prefix op t is h) few = prefix op (sign_under op) (unary_of_sign op) (prefix_derives n h (omega (arith, few)))
     prefix_derives n (atom h) few = atom (atom_derives n h few)
 
-    atom_derives : {r : ℕ} {xs : List Terminal} {a : FormulaSyntax} (n : ℕ) → IsAtom r xs a →
-        depth (expanded replacing stands_for a) ≤ n → AtomDerives n (expanded replacing stands_for a)
+    atom_derives : {r : ℕ} {xs : List Terminal} {a : FormulaSyntax} (n : ℕ) → IsAtom r xs a → depth (whole a) ≤ n → Here IsAtom n a
     atom_derives n true_atom few = true_atom
     atom_derives n false_atom few = false_atom
     atom_derives zero (brackets_atom h) few = absurd (omega (arith, few))

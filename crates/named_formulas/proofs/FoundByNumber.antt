@@ -1,13 +1,14 @@
 -- What is found by a number in a list of names: a definition, and the name that is passed for a parameter.
-use Rattle.std.proofs.Common.{◌≡◌, ℕ, zero, suc, ◌+◌, ◌<◌, ◌≤◌, Bool, true, false, cond, List, [], ◌∷◌, length, get_or, map, Option, Some, None, refl, ap, sym, ◌∙◌, arith}
+use Rattle.std.proofs.Common.{◌≡◌, ℕ, suc, ◌+◌, ◌<◌, ◌≤◌, Bool, true, false, cond, List, [], ◌∷◌, length, get_or, map, Option, Some, None, refl, ap, sym, ◌∙◌, arith}
 use Rattle.std.specs.Prelude.{option_map, option_and_then, slice_get, IfSome, MatchOption, if◌then◌else◌}
 use Rattle.std.specs.List.{position_from}
 use Rattle.std.specs.Option.{option_map_or}
 use Rattle.std.specs.Borrow.{Bor}
 use Rattle.std.specs.Str.{bytes_eq}
 use Rattle.std.proofs.lemmas.Iterator.Adapters.{position_from-zero}
-use Rattle.std.proofs.lemmas.Slice.Eq.{bytes_eq-Decides}
-use Rattle.std.proofs.lemmas.Option.{slice_get_read}
+use Rattle.std.proofs.lemmas.Option.{slice_get-map, slice_get_read}
+use Rattle.sequence.proofs.Booleans.{same_tests}
+use Rattle.sequence.proofs.Bytes.{bytes_turned as turned}
 use Rattle.tsl_terms.specs.Name.{Name, number_of, texts}
 use Rattle.named_formulas.specs.declared.definitions.ReadDefinition.{ReadDefinition}
 use Rattle.spec_syntax.specs.Syntax.{Definition}
@@ -15,19 +16,8 @@ use Rattle.named_formulas.specs.Expansion.{passed}
 use Rattle.named_formulas.specs.internal.Standing.{names_now}
 use Rattle.named_formulas.specs.DefinitionView.{definition_of, named_in, definitions_of, AreHeads}
 
-bytes_turned : (x y : List ℕ) → bytes_eq x y ≡ bytes_eq y x
-bytes_turned x y = by (bytes_eq x y) (bytes_eq y x) refl refl where
-  by : (b c : Bool) → bytes_eq x y ≡ b → bytes_eq y x ≡ c → b ≡ c
-  by true true h k = refl
-  by false false h k = refl
-  by true false h k =
-      let e : bytes_eq y x ≡ true = (bytes_eq-Decides y x).1 (sym ((bytes_eq-Decides x y).0 h)) in
-      let clash : true ≡ false = sym e ∙ k in
-      cc
-  by false true h k =
-      let e : bytes_eq x y ≡ true = (bytes_eq-Decides x y).1 (sym ((bytes_eq-Decides y x).0 k)) in
-      let clash : true ≡ false = sym e ∙ h in
-      cc
+pub bytes_turned : (x y : List ℕ) → bytes_eq x y ≡ bytes_eq y x
+bytes_turned x y = same_tests (bytes_eq x y) (bytes_eq y x) (turned x y) (turned y x)
 
 module _ {K : Type 0} (test : K → Bool) where
   pub further_on : (i : ℕ) (xs : List K) → position_from test (suc i) xs ≡ option_map suc (position_from test i xs)
@@ -64,16 +54,11 @@ found_by_number heads ds x are =
     (position_from-zero (bytes_eq x) (texts heads) ∙ ap (position_from (bytes_eq x) 0) are)
     ∙ found_from x (map definition_of ds)
 
-mapped_get : (ds : List ReadDefinition) (k : ℕ) → slice_get (map definition_of ds) k ≡ option_map definition_of (slice_get ds k)
-mapped_get [] k = refl
-mapped_get (d ∷ ds) zero = refl
-mapped_get (d ∷ ds) (suc k) = mapped_get ds k
-
 pub numbered_definition : (heads : List Name) (ds : List ReadDefinition) (x : List ℕ) (k : ℕ) (o : Option ReadDefinition) →
     AreHeads heads ds → number_of heads x ≡ Some k → slice_get ds k ≡ o → definitions_of ds x ≡ option_map definition_of o
 numbered_definition heads ds x k o are is there =
     sym (found_by_number heads ds x are) ∙ ap (option_and_then (slice_get (map definition_of ds))) is
-    ∙ mapped_get ds k ∙ ap (option_map definition_of) there
+    ∙ slice_get-map definition_of ds k ∙ ap (option_map definition_of) there
 
 pub got_definition : (heads : List Name) (ds : List ReadDefinition) (x : List ℕ) (k : ℕ) (o : Option (Bor ReadDefinition))
     (P : Bor ReadDefinition → Type 0) → AreHeads heads ds → number_of heads x ≡ Some k → IfSome o (λ d. d.now ≡ get_or ds k d.now) →
@@ -117,17 +102,12 @@ passed_by_number parameters ys x =
     ap (λ o. option_map_or (λ y. y) (option_and_then (slice_get ys) o) x) (position_from-zero (bytes_eq x) (texts parameters))
     ∙ passed_from (texts parameters) ys x
 
-bytes_get : (names : List (Bor (List ℕ))) (k : ℕ) → slice_get (names_now names) k ≡ option_map (λ n. n.now) (slice_get names k)
-bytes_get [] k = refl
-bytes_get (n ∷ names) zero = refl
-bytes_get (n ∷ names) (suc k) = bytes_get names k
-
 pub numbered_name : (parameters : List Name) (names : List (Bor (List ℕ))) (x : List ℕ) (k : ℕ) (o : Option (Bor (List ℕ))) →
     number_of parameters x ≡ Some k → slice_get names k ≡ o →
     option_map_or (λ n. n.now) o x ≡ passed (texts parameters) (names_now names) x
 numbered_name parameters names x k o is there =
     by o ∙ ap (λ found. option_map_or (λ y. y) found x) (sym (ap (option_and_then (slice_get (names_now names))) is
-    ∙ bytes_get names k ∙ ap (option_map (λ n. n.now)) there))
+    ∙ slice_get-map (λ n. n.now) names k ∙ ap (option_map (λ n. n.now)) there))
     ∙ passed_by_number parameters (names_now names) x
   where
     by : (found : Option (Bor (List ℕ))) → option_map_or (λ n. n.now) found x ≡ option_map_or (λ y. y) (option_map (λ n. n.now) found) x

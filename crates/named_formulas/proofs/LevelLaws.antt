@@ -56,15 +56,15 @@ module _ (named : List ℕ → Option Definition) (bodies : BodiesDerive named) 
 -- ---- the uses of a formula, each at its level
 
 module _ (deepest : ℕ) (needs : List ℕ → Option ℕ) where
-  both_within : (us vs : List At) → AreWithin deepest needs us → AreWithin deepest needs vs → AreWithin deepest needs (us ++ vs)
+  pub both_within : (us vs : List At) → AreWithin deepest needs us → AreWithin deepest needs vs → AreWithin deepest needs (us ++ vs)
   both_within [] vs h k = k
   both_within (u ∷ us) vs h k = (h.0, both_within us vs h.1 k)
 
-  front_within : (us vs : List At) → AreWithin deepest needs (us ++ vs) → AreWithin deepest needs us
+  pub front_within : (us vs : List At) → AreWithin deepest needs (us ++ vs) → AreWithin deepest needs us
   front_within [] vs h = tt
   front_within (u ∷ us) vs h = (h.0, front_within us vs h.1)
 
-  back_within : (us vs : List At) → AreWithin deepest needs (us ++ vs) → AreWithin deepest needs vs
+  pub back_within : (us vs : List At) → AreWithin deepest needs (us ++ vs) → AreWithin deepest needs vs
   back_within [] vs h = h
   back_within (u ∷ us) vs h = back_within us vs h.1
 

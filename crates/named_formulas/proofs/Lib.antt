@@ -2,6 +2,7 @@ mod Examples
 pub mod FoundByNumber
 pub mod HeadNames
 pub mod MoreMembers
+pub mod BareTerms
 pub mod Derived
 pub mod TextLaws
 pub mod FoldLaws

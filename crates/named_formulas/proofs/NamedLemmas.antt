@@ -1,12 +1,12 @@
 -- Definitions by their names and by their numbers, where no name is defined twice, and the names that formulas use.
 use Rattle.std.proofs.Common.{◌≡◌, ◌∙◌, ℕ, zero, suc, Bool, true, false, ◌||◌, List, [], ◌∷◌, ◌++◌, map, Option, Some, None, slice_get}
 use Rattle.std.proofs.Common.{refl, sym, ap, arith}
-use Rattle.std.specs.Prelude.{if◌then◌else◌}
+use Rattle.std.specs.Prelude.{if◌then◌else◌, option_map}
 use Rattle.std.specs.List.{list_any}
 use Rattle.std.specs.Str.{bytes_eq}
-use Rattle.std.proofs.lemmas.Bool.{false≢true}
+use Rattle.std.proofs.lemmas.Bool.{or_right, false≢true}
 use Rattle.std.proofs.lemmas.List.{map-append}
-use Rattle.std.proofs.lemmas.Option.{none-some, same_Some}
+use Rattle.std.proofs.lemmas.Option.{none-some, same_Some, slice_get-map}
 use Rattle.std.proofs.lemmas.Slice.Eq.{bytes_eq-Decides}
 use Rattle.sequence.proofs.Places.{slice_get_mapped}
 use Rattle.tsl_terms.specs.Name.{Name, AreDistinct}
@@ -62,11 +62,7 @@ pub name_at_place : (names : List (List ℕ)) (k : ℕ) (x : List ℕ) → slice
 name_at_place [] k x at = absurd (none-some x at)
 name_at_place (y ∷ names) zero x at =
     ap (λ b. b || is_name_in names x) ((bytes_eq-Decides y x).1 (same_Some y x at))
-name_at_place (y ∷ names) (suc k) x at = by (bytes_eq y x) (name_at_place names k x at)
-  where
-    by : (b : Bool) → is_name_in names x ≡ true → (b || is_name_in names x) ≡ true
-    by true h = refl
-    by false h = h
+name_at_place (y ∷ names) (suc k) x at = or_right (bytes_eq y x) (is_name_in names x) (name_at_place names k x at)
 
 pub place_of_name : (names : List (List ℕ)) (x : List ℕ) → is_name_in names x ≡ true → (k : ℕ) × (slice_get names k ≡ Some x)
 place_of_name [] x h = absurd (false≢true h)
@@ -122,12 +118,7 @@ pub text_at : (heads : List Name) (ds : List ReadDefinition) (i : ℕ) (d : Defi
     slice_get (map definition_of ds) i ≡ Some d → (n : Name) × (slice_get heads i ≡ Some n) × (n.text ≡ d.name)
 text_at heads ds i d are at =
     slice_get_mapped (λ n. n.text) heads i d.name
-    (ap (λ xs. slice_get xs i) are ∙ mapped (map definition_of ds) i d at)
-  where
-    mapped : (es : List Definition) (i : ℕ) (d : Definition) → slice_get es i ≡ Some d → slice_get (map (λ e. e.name) es) i ≡ Some d.name
-    mapped [] i d at = absurd (none-some d at)
-    mapped (e ∷ es) zero d at = ap (λ f. Some f.name) (same_Some e d at)
-    mapped (e ∷ es) (suc i) d at = mapped es i d at
+    (ap (λ xs. slice_get xs i) are ∙ slice_get-map (λ e. e.name) (map definition_of ds) i ∙ ap (option_map (λ e. e.name)) at)
 
 pub are_apart : (heads : List Name) (ds : List ReadDefinition) → AreHeads heads ds → AreDistinct heads → AreApart (map definition_of ds)
 are_apart heads ds are distinct i j d e at_i at_j same =

@@ -1,6 +1,7 @@
 -- The text of sections expands to the text of the sections in which each use is replaced, and to no other.
-use Rattle.std.proofs.Common.{◌≡◌, ℕ, ◌≤◌, max, List, [], ◌∷◌, ◌++◌, map, Option, refl, ap, sym, ◌∙◌, subst, arith}
+use Rattle.std.proofs.Common.{◌≡◌, ℕ, ◌≤◌, max, List, [], ◌∷◌, ◌++◌, map, Option, refl, sym, subst, arith}
 use Rattle.std.specs.List.{AllByRecursion}
+use Rattle.sequence.proofs.Each.{each_weaker}
 use Rattle.tsl_text.specs.declared.TokenKind.TheVariants.{OpenBrace, CloseBrace, Semicolon}
 use Rattle.spec_syntax.specs.declared.syntax.Word.TheVariants.{Assume, Guarantee, Always, Initially}
 use Rattle.spec_syntax.specs.declared.syntax.Part.{Part}
@@ -40,12 +41,10 @@ formulas_derive (section (braces head items) more) = (items_derive items, formul
 
 more_for_items : {levels_left r : ℕ} → levels_left ≤ r → (fs : List FormulaSyntax) → AllByRecursion (FormulaDerives levels_left) fs →
     AllByRecursion (FormulaDerives r) fs
-more_for_items few [] h = tt
-more_for_items few (f ∷ fs) h = (lift_formula few h.0, more_for_items few fs h.1)
+more_for_items few fs h = each_weaker _ _ (λ f. lift_formula few) fs h
 
 more_for_sections : {levels_left r : ℕ} → levels_left ≤ r → (ss : List SectionSyntax) → FormulasDerive levels_left ss → FormulasDerive r ss
-more_for_sections few [] h = tt
-more_for_sections few (s ∷ ss) h = (more_for_items few s.formulas h.0, more_for_sections few ss h.1)
+more_for_sections few ss h = each_weaker _ _ (λ s. more_for_items few s.formulas) ss h
 
 -- ---- the expansion
 

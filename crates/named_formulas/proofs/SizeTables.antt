@@ -22,7 +22,7 @@ use Rattle.named_formulas.specs.internal.UseNumbers.{used_names}
 use Rattle.named_formulas.specs.internal.SizeTables.{HasNumbers}
 use Rattle.named_formulas.proofs.FoundByNumber.{no_definition}
 use Rattle.named_formulas.proofs.NamedLemmas.{stands_is, name_at_place, named_at}
-use Rattle.named_formulas.proofs.SizeLemmas.{StopsAt, SameAt, StoppedAt, formula_same_on, formula_stopped}
+use Rattle.named_formulas.proofs.SizeLemmas.{StopsAt, formula_same_on, formula_stopped}
 use Rattle.named_formulas.proofs.UseGraphs.{mapped_at, named_one, number_at, defined_by}
 
 none_within : (F : Fold) (named : List ℕ → Option Definition) (n : ℕ) (x : List ℕ) → named x ≡ None → number_within F named n x ≡ None
@@ -71,14 +71,14 @@ module _ (heads : List Name) (rs : List ReadDefinition) (are : AreHeads heads rs
     stays (suc n) p i d at_p at_i less =
         of_one (suc n) i d at_i
         ∙ ap (λ m. Some (F.of_group m)) (formula_same_on F (number_within F named (suc n)) (number_within F named n) d.body
-        (each_from_places (SameAt F (number_within F named (suc n)) (number_within F named n)) (used_names d.body)
+        (each_from_places _ (used_names d.body)
         (λ k y at_k. same_at k y at_k (λ q j e at_q at_j before. stays n q j e at_q at_j (omega (arith, before, less))))))
         ∙ sym (of_one n i d at_i)
       where
         same_at : (k : ℕ) (y : List ℕ) → slice_get (used_names d.body) k ≡ Some y →
             ((q j : ℕ) (e : Definition) → slice_get order q ≡ Some j → slice_get ds j ≡ Some e → q < p →
             number_within F named (suc n) e.name ≡ number_within F named n e.name) →
-            SameAt F (number_within F named (suc n)) (number_within F named n) y
+            number_within F named (suc n) y ≡ number_within F named n y
         same_at k y at_k before = by (named y) refl
           where
             by : (o : Option Definition) → named y ≡ o → number_within F named (suc n) y ≡ number_within F named n y
@@ -121,14 +121,14 @@ module _ (heads : List Name) (rs : List ReadDefinition) (are : AreHeads heads rs
     next_is sizes p i d has at_p at_i =
         ap (λ m. Some m) (stops.group _ _ (twice (fold_by F (number_at_name sizes) d.body)
         ∙ formula_stopped most F stops (number_at_name sizes) (number_in F ds) d.body
-        (each_from_places (StoppedAt most F stops (number_at_name sizes) (number_in F ds)) (used_names d.body) at_place)))
+        (each_from_places _ (used_names d.body) at_place)))
         ∙ sym (ap (option_map (min most)) (number_is F p i d at_p at_i))
       where
         twice : (n : ℕ) → min most (min most n) ≡ min most n
         twice n = omega arith
 
         at_place : (k : ℕ) (y : List ℕ) → slice_get (used_names d.body) k ≡ Some y →
-            StoppedAt most F stops (number_at_name sizes) (number_in F ds) y
+            number_at_name sizes y ≡ option_map (min most) (number_in F ds y)
         at_place k y at_k = by (number_of heads y) refl
           where
             one_number : (j k : ℕ) (e : Definition) → slice_get ds k ≡ Some e → slice_get ds j ≡ Some e → j ≡ k

@@ -2,7 +2,6 @@
 use Rattle.std.proofs.Common.{◌≡◌, ℕ, zero, suc, ◌+◌, ◌<◌, min, List, Option, Some, None, refl, ap, sym, ◌∙◌, arith}
 use Rattle.std.specs.Prelude.{option_map}
 use Rattle.tsl_terms.specs.declared.operator.BinaryOperator.{BinaryOperator}
-use Rattle.tsl_terms.specs.declared.operator.BinaryOperator.TheVariants.{Implication, Equivalence, Until, WeakUntil, Release}
 use Rattle.tsl_terms.specs.Nodes.{nodes_of_sides}
 use Rattle.spec_syntax.specs.Syntax.{TermSyntax, alone, applied, grouped_term, TermsSyntax, no_terms, more_terms}
 use Rattle.spec_syntax.specs.Syntax.{FormulaSyntax, truth, falsehood, bare, tested, updated, grouped, under, between}
@@ -11,6 +10,7 @@ use Rattle.spec_syntax.specs.Syntax.{Definition}
 use Rattle.named_formulas.specs.Expansion.{passed_names}
 use Rattle.named_formulas.specs.Folds.{Fold, number_or, fold_term, fold_terms, number_of_test, fold_by, fold_members_by, number_within, node_counts, capped}
 use Rattle.named_formulas.specs.WellUsed.{IsFree, IsTest, no_use, use_of, IsBare, no_bare_use, bare_use, UsesWell, MembersUseWell, AreRanked}
+use Rattle.named_formulas.proofs.SizeLemmas.{node_counts_stop}
 
 -- ---- numbers of nodes that stop at a bound
 
@@ -27,11 +27,7 @@ module _ (most : ℕ) where
 
   sides_capped : (op : BinaryOperator) (m n a b : ℕ) → m ≡ min most a → n ≡ min most b →
       min most (1 + nodes_of_sides op m n) ≡ min most (1 + nodes_of_sides op a b)
-  sides_capped Implication m n a b h k = omega (arith, h, k)
-  sides_capped Equivalence m n a b h k = omega (arith, h, k)
-  sides_capped Until m n a b h k = omega (arith, h, k)
-  sides_capped WeakUntil m n a b h k = omega (arith, h, k)
-  sides_capped Release m n a b h k = omega (arith, h, k)
+  sides_capped op m n a b h k = (node_counts_stop most).between op m n a b (omega (arith, h)) (omega (arith, k))
 
   or_capped : (o : Option ℕ) (m n : ℕ) → m ≡ min most n → number_or (option_map (min most) o) m ≡ min most (number_or o n)
   or_capped None m n h = h

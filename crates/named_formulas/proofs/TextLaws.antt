@@ -20,9 +20,10 @@ use Rattle.spec_syntax.specs.Grammar.{in_brackets}
 use Rattle.spec_syntax.specs.Written.{sign_under, sign_between, sign_many, written_term, written_arguments, written_terms}
 use Rattle.spec_syntax.specs.Written.{written, written_further}
 use Rattle.spec_syntax.specs.Syntax.{Definition}
-use Rattle.named_formulas.specs.Expansion.{passed, bare_names, put_for, passed_names, renamed_term, renamed_terms, replacing_test, expanded, expanded_members, expansion_within}
+use Rattle.named_formulas.specs.Expansion.{passed, put_for, passed_names, renamed_term, renamed_terms, replacing_test, expanded, expanded_members, expansion_within}
 use Rattle.named_formulas.specs.TextExpansion.{renamed_terminal, body_with, is_defined, Expands, nothing, kept, used}
 use Rattle.named_formulas.specs.WellUsed.{text_of, as_written, IsFree, AreFree, IsFreeTerm, AreFreeTerms, IsUse, IsTest, no_use, use_of, IsBare, no_bare_use, bare_use, UsesWell, MembersUseWell, AreRanked}
+use Rattle.named_formulas.proofs.BareTerms.{alone_terms, bare_are}
 
 -- what uses only definitions below a rank uses only those below a higher one
 module _ (all : List ℕ → Option Definition) (rank : List ℕ → ℕ) (m n : ℕ) (less : m ≤ n) where
@@ -149,11 +150,16 @@ module _ (all : List ℕ → Option Definition) (rank : List ℕ → ℕ) where
   PutsExpansions below = (x : List ℕ) (ys : List (List ℕ)) (u : IsUse all rank below x ys) → Put below x ys u.definition
 
   -- a name that is no defined name is put for by nothing
-  abbrev pub LeavesFree : ℕ → Type 0
-  LeavesFree below = (x : List ℕ) (ys : List (List ℕ)) → IsFree all rank x → expansion_within all below x ys ≡ None
+  pub expansion_none : (n : ℕ) (x : List ℕ) (ys : List (List ℕ)) → IsFree all rank x → expansion_within all n x ys ≡ None
+  expansion_none zero x ys away = refl
+  expansion_none (suc n) x ys away = ap (option_map _) away
 
-  module _ (below : ℕ) (puts : PutsExpansions below) (leaves : LeavesFree below)
-      (stands_for : List ℕ → List ℕ) (renames : Renames stands_for) where
+  pub none_put : (n : ℕ) (stands_for : List ℕ → List ℕ) (p : List ℕ) (names : Option (List (List ℕ))) → IsFree all rank p →
+      replacing_test (expansion_within all n) stands_for p names ≡ None
+  none_put n stands_for p None away = refl
+  none_put n stands_for p (Some ys) away = expansion_none n p (map stands_for ys) away
+
+  module _ (below : ℕ) (puts : PutsExpansions below) (stands_for : List ℕ → List ℕ) (renames : Renames stands_for) where
     used_expands : (x : List ℕ) (ys : List (List ℕ)) (u : IsUse all rank below x ys) →
         Expands (as_written all) (free x ∷ map free ys) (written (put_for (expansion_within all below x ys) (bare x)))
     used_expands x ys u =
@@ -169,21 +175,9 @@ module _ (all : List ℕ → Option Definition) (rank : List ℕ → ℕ) where
         let p = puts x ys u in
         ap (λ o. put_for o a) p.is ∙ sym (ap (λ o. put_for o b) p.is)
 
-    name_written : (x : List ℕ) (ts : TermsSyntax) (ys : List (List ℕ)) (o : Option (List (List ℕ))) →
-        ((zs : List (List ℕ)) → o ≡ Some zs → written_terms ts ≡ map free zs) → option_map (λ xs. x ∷ xs) o ≡ Some ys →
-        free x ∷ written_terms ts ≡ map free ys
-    name_written x ts ys None others h = cc
-    name_written x ts ys (Some zs) others h =
-        let e : x ∷ zs ≡ ys = cc in
-        ap (λ xs. free x ∷ xs) (others zs refl) ∙ ap (map free) e
-
-    passed_written : (ts : TermsSyntax) (ys : List (List ℕ)) → bare_names ts ≡ Some ys → written_terms ts ≡ map free ys
-    passed_written no_terms ys h =
-        let e : [] ≡ ys = cc in
-        ap (map free) e
-    passed_written (more_terms (alone x) ts) ys h = name_written x ts ys (bare_names ts) (λ zs. passed_written ts zs) h
-    passed_written (more_terms (applied f us) ts) ys h = cc
-    passed_written (more_terms (grouped_term t) ts) ys h = cc
+    alone_written : (ys : List (List ℕ)) → written_terms (alone_terms ys) ≡ map free ys
+    alone_written [] = refl
+    alone_written (y ∷ ys) = ap (λ xs. free y ∷ xs) (alone_written ys)
 
     sign_expands : (op : UnaryOperator) (xs us : List Terminal) → Expands (as_written all) (map (renamed_terminal stands_for) xs) us →
         Expands (as_written all) (map (renamed_terminal stands_for) (sign_under op ∷ xs)) (sign_under op ∷ us)
@@ -209,7 +203,7 @@ module _ (all : List ℕ → Option Definition) (rank : List ℕ → ℕ) where
         Expands (as_written all) (free (stands_for x) ∷ []) (written (put_for (expansion_within all below x []) (bare (stands_for x))))
     bare_expands x (no_bare_use away) =
         subst (λ o. Expands (as_written all) (free (stands_for x) ∷ []) (written (put_for o (bare (stands_for x)))))
-        (sym (leaves x [] away))
+        (sym (expansion_none below x [] away))
         (free_one (stands_for x) (renames.free_stays x away))
     bare_expands x (bare_use u) =
         subst (λ y. Expands (as_written all) (free y ∷ []) (written (put_for (expansion_within all below x []) (bare (stands_for x)))))
@@ -219,12 +213,7 @@ module _ (all : List ℕ → Option Definition) (rank : List ℕ → ℕ) where
 
     passed_arguments : (ts : TermsSyntax) (ys : List (List ℕ)) → passed_names ts ≡ Some ys → written_arguments ts ≡ map free ys
     passed_arguments no_terms ys h = cc
-    passed_arguments (more_terms t ts) ys h = passed_written (more_terms t ts) ys h
-
-    none_put : (p : List ℕ) (names : Option (List (List ℕ))) → IsFree all rank p →
-        replacing_test (expansion_within all below) stands_for p names ≡ None
-    none_put p None away = refl
-    none_put p (Some ys) away = leaves p (map stands_for ys) away
+    passed_arguments (more_terms t ts) ys h = ap written_terms (bare_are (more_terms t ts) ys h) ∙ alone_written ys
 
     test_expands : (p : List ℕ) (ts : TermsSyntax) → IsTest all rank below p ts →
         Expands (as_written all) (map (renamed_terminal stands_for) (written (tested p ts)))
@@ -233,7 +222,7 @@ module _ (all : List ℕ → Option Definition) (rank : List ℕ → ℕ) where
     test_expands p ts (no_use away terms) =
         subst (λ o. Expands (as_written all) (map (renamed_terminal stands_for) (written (tested p ts)))
         (written (put_for o (tested (stands_for p) (renamed_terms stands_for ts)))))
-        (sym (none_put p (passed_names ts) away))
+        (sym (none_put below stands_for p (passed_names ts) away))
         (kept (free (stands_for p)) (keep (stands_for p) (renames.free_stays p away)) (arguments_expand stands_for renames ts terms))
     test_expands p ts (use_of ys is u) =
         let v = use_renamed stands_for renames below p ys u in
@@ -314,10 +303,6 @@ module _ (all : List ℕ → Option Definition) (rank : List ℕ → ℕ) where
     defined_stays = λ x d is. passed_defined ps ys x d params is;
   }
 
-  pub expansion_none : (n : ℕ) (x : List ℕ) (ys : List (List ℕ)) → IsFree all rank x → expansion_within all n x ys ≡ None
-  expansion_none zero x ys away = refl
-  expansion_none (suc n) x ys away = ap (option_map _) away
-
   -- definitions in order put the expansions of their bodies
   pub puts_expansions : AreRanked all rank → (n : ℕ) → PutsExpansions n
   puts_expansions ranked zero x ys u = absurd (omega (arith, u.is_lower))
@@ -327,12 +312,12 @@ module _ (all : List ℕ → Option Definition) (rank : List ℕ → ℕ) where
         inner = expanded (expansion_within all n) (passed d.parameters ys) d.body;
         is = ap (option_map (λ k. grouped (expanded (expansion_within all n) (passed k.parameters ys) k.body))) u.defined;
         expands =
-            formula_expands n (puts_expansions ranked n) (expansion_none n) (passed d.parameters ys)
+            formula_expands n (puts_expansions ranked n) (passed d.parameters ys)
             (passing_renames d.parameters ys (ranked.parameters x d u.defined) u.free_names) d.body
             (formula_below all rank (rank x) n (omega (arith, u.is_lower)) d.body (ranked.bodies x d u.defined));
       }
 
-  alone_stays : Renames (λ x. x)
+  pub alone_stays : Renames (λ x. x)
   alone_stays = record { free_stays = λ x away. away; defined_stays = λ x d is. refl }
 
   same_terminals : (xs : List Terminal) → map (renamed_terminal (λ x. x)) xs ≡ xs
@@ -346,4 +331,4 @@ module _ (all : List ℕ → Option Definition) (rank : List ℕ → ℕ) where
       Expands (as_written all) (written a) (written (expanded (expansion_within all n) (λ x. x) a))
   text_expands ranked n a well =
       subst (λ xs. Expands (as_written all) xs (written (expanded (expansion_within all n) (λ x. x) a))) (same_terminals (written a))
-      (formula_expands n (puts_expansions ranked n) (expansion_none n) (λ x. x) alone_stays a well)
+      (formula_expands n (puts_expansions ranked n) (λ x. x) alone_stays a well)

@@ -5,10 +5,10 @@ use Rattle.std.specs.Prelude.{option_map, option_and_then}
 use Rattle.std.specs.List.{cons_option}
 use Rattle.std.specs.Option.{is_some, option_map_or}
 use Rattle.std.specs.Str.{bytes_eq}
-use Rattle.std.proofs.lemmas.Bool.{false≢true, eqb-true}
+use Rattle.std.proofs.lemmas.Bool.{and_parts, or_right, false≢true, eqb-true}
 use Rattle.std.proofs.lemmas.List.{length-map}
 use Rattle.std.proofs.lemmas.List.Quantifiers.{position-Some}
-use Rattle.std.proofs.lemmas.Option.{none-some, same_Some, slice_get_within}
+use Rattle.std.proofs.lemmas.Option.{none-some, same_Some, slice_get-map, slice_get_within}
 use Rattle.sequence.specs.Numbers.{is_among}
 use Rattle.sequence.proofs.Numbers.{among_at, among_first}
 use Rattle.sequence.proofs.Options.{some_is}
@@ -27,13 +27,7 @@ use Rattle.named_formulas.proofs.NamedLemmas.{stands_is, name_at_place, place_of
 -- ---- lists
 
 pub mapped_at : {X Y : Type 0} (f : X → Y) (xs : List X) (i : ℕ) (x : X) → slice_get xs i ≡ Some x → slice_get (map f xs) i ≡ Some (f x)
-mapped_at f [] i x at = absurd (none-some x at)
-mapped_at f (y ∷ xs) zero x at = ap (option_map f) at
-mapped_at f (y ∷ xs) (suc i) x at = mapped_at f xs i x at
-
-and_both : (a b : Bool) → (a && b) ≡ true → (a ≡ true) × (b ≡ true)
-and_both true b h = (refl, h)
-and_both false b h = absurd (false≢true h)
+mapped_at f xs i x at = slice_get-map f xs i ∙ ap (option_map f) at
 
 -- ---- names and their numbers
 
@@ -41,15 +35,11 @@ numbered_more : (heads : List Name) (y : List ℕ) (names : List (List ℕ)) (j 
     is_among (numbers_of heads (y ∷ names)) j ≡ true
 numbered_more heads y names j h = by (number_of heads y) refl
   where
-    either : (b c : Bool) → c ≡ true → (b || c) ≡ true
-    either true c k = refl
-    either false c k = k
-
     by : (o : Option ℕ) → number_of heads y ≡ o → is_among (numbers_of heads (y ∷ names)) j ≡ true
     by None is = subst (λ o. is_among (cons_option o (numbers_of heads names)) j ≡ true) (sym is) h
     by (Some n) is =
         subst (λ o. is_among (cons_option o (numbers_of heads names)) j ≡ true) (sym is)
-        (either (n == j) (is_among (numbers_of heads names) j) h)
+        (or_right (n == j) (is_among (numbers_of heads names) j) h)
 
 -- a name that is used, by its number
 pub numbered_at : (heads : List Name) (names : List (List ℕ)) (k : ℕ) (y : List ℕ) (j : ℕ) → slice_get names k ≡ Some y →
@@ -156,7 +146,7 @@ module _ (heads : List Name) (rs : List ReadDefinition) (are : AreHeads heads rs
       uses_of (named_in ds) d.name e.name ≡ true → goes graph i j ≡ true
   goes_if_uses i j d e at_i at_j uses =
       let stands : stands_in d.body e.name ≡ true =
-      sym (ap (λ o. option_map_or (λ d. stands_in d.body e.name) o false) (named_one i d at_i)) ∙ (and_both _ _ uses).0 in
+      sym (ap (λ o. option_map_or (λ d. stands_in d.body e.name) o false) (named_one i d at_i)) ∙ (and_parts _ _ uses).0 in
       let place = place_of_name (used_names d.body) e.name (sym (stands_is d.body e.name) ∙ stands) in
       goes_is i j d at_i ∙ numbered_at heads (used_names d.body) place.0 e.name j place.1 (number_at j e at_j)
 
@@ -185,7 +175,7 @@ module _ (heads : List Name) (rs : List ReadDefinition) (are : AreHeads heads rs
   to_numbers x y i j d e at_i at_j x_is y_is (one h) =
       one (goes_if_uses i j d e at_i at_j ((λ k. uses_of (named_in ds) (x_is k) (y_is k)) ∙ h))
   to_numbers x y i j d e at_i at_j x_is y_is (more {y = z} h rest) =
-      let named = some_is (named_in ds z) (and_both _ _ h).1 in
+      let named = some_is (named_in ds z) (and_parts _ _ h).1 in
       let f = named_at ds z named.0 named.1 in
       more (goes_if_uses i f.0 d named.0 at_i f.1 ((λ k. uses_of (named_in ds) (x_is k) (f.2 k)) ∙ h))
       (to_numbers z y f.0 j named.0 e f.1 at_j f.2 y_is rest)

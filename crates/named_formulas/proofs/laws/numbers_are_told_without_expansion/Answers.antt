@@ -3,7 +3,7 @@ use Rattle.named_formulas.proofs.Tables.{next_number, formula_capped}
 use Rattle.sequence.proofs.Each.{each_from_places}
 use Rattle.named_formulas.specs.Folds.{depths}
 use Rattle.named_formulas.specs.internal.UseNumbers.{used_names}
-use Rattle.named_formulas.proofs.SizeLemmas.{StoppedAt, formula_stopped, depths_stop}
+use Rattle.named_formulas.proofs.SizeLemmas.{formula_stopped, depths_stop}
 use Rattle.named_formulas.proofs.laws.numbers_are_told_without_expansion.Goals as goal
 
 pub returns-clause-whole : goal.returns-clause-whole
@@ -18,4 +18,4 @@ returns-clause-stopped c = formula_capped
 pub returns-clause-stopped_levels : goal.returns-clause-stopped_levels
 returns-clause-stopped_levels c most exact stopped agree a =
     formula_stopped most depths (depths_stop most) stopped exact a
-    (each_from_places (StoppedAt most depths (depths_stop most) stopped exact) (used_names a) (λ i x at. agree x))
+    (each_from_places _ (used_names a) (λ i x at. agree x))

@@ -4,7 +4,7 @@ use Rattle.spec_syntax.specs.SyntaxView.{formula_syntax}
 use Rattle.named_formulas.specs.Folds.{depths, node_counts}
 use Rattle.named_formulas.specs.ExpansionSizes.{levels_at, nodes_at, number_in}
 use Rattle.named_formulas.specs.internal.UseNumbers.{used_names}
-use Rattle.named_formulas.proofs.SizeLemmas.{StoppedAt, formula_stopped, depths_stop, node_counts_stop}
+use Rattle.named_formulas.proofs.SizeLemmas.{formula_stopped, depths_stop, node_counts_stop}
 use Rattle.named_formulas.proofs.sizing.expansion_size.Goals as goal
 
 pub returns-clause-levels : goal.returns-clause-levels
@@ -13,7 +13,7 @@ returns-clause-levels c ds are =
     let table = levels_at c.args.heads.now c.args.sizes.now in
     c.table_size.ensures.levels
     ∙ formula_stopped 201 depths (depths_stop 201) table (number_in depths ds) a
-    (each_from_places (StoppedAt 201 depths (depths_stop 201) table (number_in depths ds)) (used_names a) (λ i x at. are.levels x))
+    (each_from_places _ (used_names a) (λ i x at. are.levels x))
 
 pub returns-clause-nodes : goal.returns-clause-nodes
 returns-clause-nodes c ds are =
@@ -21,5 +21,4 @@ returns-clause-nodes c ds are =
     let table = nodes_at c.args.heads.now c.args.sizes.now in
     c.table_size.ensures.nodes
     ∙ formula_stopped 10001 node_counts (node_counts_stop 10001) table (number_in node_counts ds) a
-    (each_from_places (StoppedAt 10001 node_counts (node_counts_stop 10001) table (number_in node_counts ds)) (used_names a)
-    (λ i x at. are.nodes x))
+    (each_from_places _ (used_names a) (λ i x at. are.nodes x))
