@@ -26,16 +26,11 @@ use Rattle.declared_names.specs.WellDeclared.{occurs_plain, heads_of, names_in, 
 use Rattle.declared_names.proofs.WrittenTexts.{occurrences_texts}
 use Rattle.declared_names.proofs.Expanded.{expanded_names}
 use Rattle.tsl_reader.specs.Naming.{all_uses}
-use Rattle.tsl_reader.proofs.UseTexts.{free_texts}
+use Rattle.spec_syntax.specs.Written.{free_texts}
+use Rattle.declared_names.proofs.WrittenTexts.{texts_are_names}
 use Rattle.tsl_reader.proofs.Usable.{IsUsable, usable_terminals}
 use Rattle.tsl_reader.proofs.UsesAreKnown.{UsesAreUsable}
 use Rattle.tsl_reader.proofs.UsesStand.{UseStands, uses_stand}
-
-texts_are_names : (xs : List Terminal) → free_texts xs ≡ free_names xs
-texts_are_names [] = refl
-texts_are_names (free x ∷ xs) = ap (λ names. x ∷ names) (texts_are_names xs)
-texts_are_names (word w ∷ xs) = texts_are_names xs
-texts_are_names (mark m ∷ xs) = texts_are_names xs
 
 -- the names of a text are usable
 pub names_are_usable : (text : List ℕ) (tokens : List Token) → AreTokens text tokens →

@@ -5,5 +5,4 @@ use Rattle.tsl_reader.proofs.text_names.order_of.Goals as goal
 
 pub order-requires : goal.order-requires
 order-requires c =
-    heads_are_names c.args.text.now c.args.tokens.now c.args.names.now.heads (map occurrence_of c.args.names.now.occurrences.items)
-    c.requires.parts.0 c.args.definitions.now c.requires.parts.1
+    heads_are_names c.args.definitions.now c.requires.parts.1
