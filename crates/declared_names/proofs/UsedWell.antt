@@ -86,7 +86,7 @@ module _ (named : List ℕ → Option Definition) (rank : List ℕ → ℕ) (hea
       let there : name_with heads o.text ≡ Some (head_of d) = ap (name_with heads) text ∙ heads_are x ∙ ap (option_map head_of) found.1 in
       let like : (length d.parameters == o.arity) ≡ true =
       not-false (length d.parameters == o.arity)
-      (sym (ap (λ o. option_map_or (λ n. not (same_arity n (name_of o))) o false) there)
+      (sym (ap (λ f. option_map_or (λ n. not (same_arity n (name_of o))) f false) there)
       ∙ not-true (is_unlike_name same_arity heads o) as_many) in
       record {
         definition = d;
