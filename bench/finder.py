@@ -27,10 +27,15 @@ def choices(signal, terms):
 
 def specification(cells, outputs):
     """So many cells that keep themselves or copy the input, an output for each count, of so many terms, and an input that passes at
-    every second step, so that an environment has states that differ."""
+    every second step, so that an environment has states that differ. A test reads all cells, and stays as it is where they do."""
     lines = [choices(f"cell{i}", [f"cell{i}", "x"]) for i in range(cells)]
     lines += [choices(f"out{i}", [f"f{j} x" for j in range(count)]) for i, count in enumerate(outputs)]
-    return "always guarantee { %s } always assume { p x <-> X !p x; } guarantee { false; }" % " ".join(lines)
+    assumed = ["p x <-> X !p x;"]
+    if cells:
+        test = "p (h " + " ".join(f"cell{i}" for i in range(cells)) + ")"
+        kept = " && ".join(f"[cell{i} <- cell{i}]" for i in range(cells))
+        assumed.append(f"({kept}) -> ({test} <-> X {test});")
+    return "always guarantee { %s } always assume { %s } guarantee { false; }" % (" ".join(lines), " ".join(assumed))
 
 
 FAMILIES = [

@@ -134,8 +134,9 @@ def paths(size):
 
 
 def cells_in_tests(size):
-    """So many cells that keep themselves or copy the input. An input that passes at every second step passes in the cell that copies it,
-    as long as it is kept: an environment that keeps to that is told apart by no window, and has a truth of its own at each step."""
+    """So many cells that keep themselves or copy the input, of which a test reads one. An input that passes at every second step passes in
+    the cell that copies it, as long as it is kept: an environment that keeps to that is told apart by no window, and has a truth of its own
+    at each step."""
     cells = " ".join(f"[cell{i} <- cell{i}] || [cell{i} <- x];" for i in range(size))
     kept = "p x <-> X !p x; [cell0 <- x] -> (p x <-> X p cell0); [cell0 <- cell0] -> (p cell0 <-> X p cell0);"
     return f"always guarantee {{ {cells} }} always assume {{ {kept} }} guarantee {{ false; }}"
@@ -248,9 +249,9 @@ LIMITS = [
     Family("vectors", SYNTH, lambda n: specification(0, [2] * n), rising(10, 6), "none", 11, "large vectors 1024", two_to),
     Family("branches, depth 3", [*SYNTH, "--depth", "3"], paths, [7, 9, 11, 13], "none", 14, "large branches 10000000",
            lambda n: (n * (n + 3.0)) ** 3),
-    Family("branches of cells, depth 3", [*SYNTH, "--depth", "3"], lambda n: specification(n, []), rising(7), "none", 8,
+    Family("branches where a test reads all cells, depth 3", [*SYNTH, "--depth", "3"], lambda n: specification(n, []), rising(7), "none", 8,
            "large branches 10000000", lambda n: 8.0**n),
-    Family("branches where a test reads a cell, depth 3", [*SYNTH, "--depth", "3", "--env-states", "4", "--env-bound", "4"], cells_in_tests,
+    Family("branches where a test reads one cell, depth 3", [*SYNTH, "--depth", "3", "--env-states", "4", "--env-bound", "4"], cells_in_tests,
            rising(7), "reason genuine", 8, "large branches 10000000", lambda n: 8.0**n),
     Family("nodes of a program", RUN, long_program, doubling(2**16), "loop", 2**16 + 1, "large program-nodes 65536"),
     Family("states of a program", [*CHECK, "--bound", "15"], crossing, doubling(64), "accepted", 65, "large program-states 64"),

@@ -10,6 +10,8 @@ pub mod MoveLemmas
 pub mod ToldApart
 pub mod PathUpdates
 pub mod UpdateOrder
+pub mod UnreadSignals
+pub mod RelevantCells
 pub mod PathEqualities
 pub mod PathCongruence
 pub mod ArgumentLemmas

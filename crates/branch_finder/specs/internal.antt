@@ -1,6 +1,7 @@
 pub mod Prints
 pub mod Arguments
 pub mod Sets
+pub mod Relevant
 pub mod Planes
 pub mod Paths
 pub mod Differing

@@ -48,7 +48,7 @@ pub(crate) fn path_with(
     requires some { 1 ≤ vectors }
     ensures { IfOk result (λ path. path.items ≡ path_of vectors steps number) }
 {
-    let mut path = Vec::new(alloc);
+    let mut path = Vec::with_capacity(alloc, steps as usize)?;
     let mut rest = number;
     let mut left = steps;
     while left > 0 {

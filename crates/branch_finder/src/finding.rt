@@ -28,6 +28,7 @@ use crate::listing::{equalities_along, updates_along};
 use crate::looking::{Look, Search, Walk};
 use crate::moving::{plane_of, states_after};
 use crate::prints::{equality_bits, prints_of};
+use crate::relevance::relevant_cells;
 use crate::sets::{sets_of, vector_masks};
 use crate::thinning::needed_window;
 use crate::values::looks_seen;
@@ -46,7 +47,7 @@ fn first_vectors(alloc: Global, firsts: &[u32], numbers: &[u32]) -> Result<Vec<u
     requires { AllByRecursion (λ n. n < length firsts.now) numbers.now }
     ensures { IfOk result (λ path. path.items ≡ map (first_of firsts.now) numbers.now) }
 {
-    let mut path = Vec::new(alloc);
+    let mut path = Vec::with_capacity(alloc, numbers.len())?;
     for number in numbers {
         path.push(firsts[*number as usize])?;
     }
@@ -261,6 +262,55 @@ fn least_window(alloc: Global, search: &Search, depth: u32) -> Result<Option<Win
     Ok(None)
 }
 
+/// What `find_window` answers where there is a predicate term and the branches are few. An `Err` says that memory ran
+/// out.
+fn window_of_cells(
+    alloc: Global,
+    environment: &Environment,
+    space: &Space,
+    cells: &[u32],
+    depth: u32,
+    equality: Option<u32>,
+) -> Result<Option<Window>, NoMemory>
+    requires fits { EnvironmentFits (space_tree space.now) (environment_tree environment.now) }
+    requires short { depth ≤ 3 }
+    requires some { 1 ≤ length space.now.predicates }
+    requires few { branch_count (space_tree space.now) depth ≤ MOST_BRANCHES }
+    ensures found { IfOk result (λ found. IfSome found (λ w.
+        IsFoundWindow (space_tree space.now) (environment_tree environment.now) cells.now equality depth (window_tree w))) }
+    ensures none { IfOk result (λ found. IfNone found
+        (HasNoSpuriousWindow (space_tree space.now) (environment_tree environment.now) cells.now equality depth)) }
+{
+    let visited = visited_states(alloc, environment)?;
+    let visited = plane_of(alloc, environment.states, visited.as_slice())?;
+    let mask = equality_bits(space, equality);
+    let prints = prints_of(alloc, environment, mask)?;
+    let arguments = arguments_of(alloc, space)?;
+    let masks = vector_masks(alloc, space, environment.vectors)?;
+    let sets = sets_of(alloc, space, cells, environment.vectors)?;
+    let links = links_of(
+        alloc,
+        environment,
+        space,
+        masks.as_slice(),
+        sets.sets.as_slice(),
+    )?;
+    let search = Search {
+        environment,
+        space,
+        cells,
+        visited: visited.as_slice(),
+        equality,
+        mask,
+        prints: prints.as_slice(),
+        terms: arguments.terms.as_slice(),
+        starts: arguments.starts.as_slice(),
+        firsts: sets.firsts.as_slice(),
+        links: links.as_slice(),
+    };
+    Ok(least_window(alloc, &search, depth)?)
+}
+
 /// A congruent window that is spurious and of the least length, at most the depth, and lists no update and no
 /// equality too many, in the order of programs; or none, where no congruent window of at most this length is spurious.
 /// Equalities are the probes of the handed predicate with two arguments; without one a window that is found has a left
@@ -292,32 +342,13 @@ pub fn find_window(
     if predicates == 0 {
         return Ok(None);
     }
-    let visited = visited_states(alloc, environment)?;
-    let visited = plane_of(alloc, environment.states, visited.as_slice())?;
-    let mask = equality_bits(space, equality);
-    let prints = prints_of(alloc, environment, mask)?;
-    let arguments = arguments_of(alloc, space)?;
-    let masks = vector_masks(alloc, space, environment.vectors)?;
-    let sets = sets_of(alloc, space, cells, environment.vectors)?;
-    let links = links_of(
+    let relevant = relevant_cells(alloc, space, cells)?;
+    Ok(window_of_cells(
         alloc,
         environment,
         space,
-        masks.as_slice(),
-        sets.sets.as_slice(),
-    )?;
-    let search = Search {
-        environment,
-        space,
-        cells,
-        visited: visited.as_slice(),
+        relevant.as_slice(),
+        depth,
         equality,
-        mask,
-        prints: prints.as_slice(),
-        terms: arguments.terms.as_slice(),
-        starts: arguments.starts.as_slice(),
-        firsts: sets.firsts.as_slice(),
-        links: links.as_slice(),
-    };
-    Ok(least_window(alloc, &search, depth)?)
+    )?)
 }

@@ -20,6 +20,8 @@
 //! is not labelled (`values`). The vectors with all updates of a set are matched by their masks, and give the states
 //! that each state goes to (`linking`); where an environment may be after some steps is a plane of states (`moving`).
 //! Where visited states differ in nothing that a congruent window speaks of, no path is looked at (`differing`).
+//! Only the cells that predicate terms depend on count (`relevance`): without the updates of the others a window is as
+//! congruent and as spurious.
 #![tactic(auto)]
 
 mod arguments;
@@ -34,6 +36,7 @@ mod looking;
 mod moving;
 mod planes;
 mod prints;
+mod relevance;
 mod sets;
 mod thinning;
 mod values;

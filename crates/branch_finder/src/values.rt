@@ -137,7 +137,7 @@ fn values_after(
         known.now.cells.now) }
 {
     let picks = space.picks(alloc, vector)?;
-    let mut values = Vec::new(alloc);
+    let mut values = Vec::with_capacity(alloc, known.cells.len())?;
     for cell in known.cells {
         let controlled = space.controlled.as_slice();
         values.push(value_after(controlled, picks.as_slice(), known, *cell))?;
@@ -149,7 +149,7 @@ fn values_after(
 fn first_values(alloc: Global, cells: &[u32]) -> Result<Vec<u64>, NoMemory>
     ensures { IfOk result (λ values. values.items ≡ map (leaf_value 0) cells.now) }
 {
-    let mut values = Vec::new(alloc);
+    let mut values = Vec::with_capacity(alloc, cells.len())?;
     for cell in cells {
         values.push(leaf_value(0, *cell))?;
     }

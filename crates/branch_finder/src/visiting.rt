@@ -21,7 +21,7 @@ pub(crate) fn add_once(found: &mut Vec<u32>, number: u32) -> Result<(), NoMemory
 }
 
 /// Whether a number is found.
-fn is_found(found: &[u32], number: u32) -> bool
+pub(crate) fn is_found(found: &[u32], number: u32) -> bool
     ensures { result ≡ is_among found.now number }
 {
     found.iter().any(|other| *other == number)

@@ -1,10 +1,10 @@
 -- The equalities of a window's line and those with numbers: they are equalities alike, stand alike, and are in order alike.
-use Rattle.std.proofs.Common.{◌≡◌, ℕ, ◌+◌, ◌^◌, Bool, true, false, not, ◌==◌, ◌&&◌, ◌||◌, cond, List, [], ◌∷◌, map, refl, ap, sym, ◌∙◌, subst}
+use Rattle.std.proofs.Common.{◌≡◌, ℕ, ◌+◌, Bool, true, false, not, ◌==◌, ◌&&◌, ◌||◌, List, [], ◌∷◌, map, refl, ap, sym, ◌∙◌, subst}
 use Rattle.std.proofs.Common.{eq-eqb, arith}
-use Rattle.std.specs.Prelude.{Option, Some, None, option_map, slice_get, nat_le, nat_lt, codes, bytes_eq}
+use Rattle.std.specs.Prelude.{Some, option_map, slice_get, nat_le, nat_lt, codes, bytes_eq}
 use Rattle.std.specs.List.{list_all, AllByRecursion}
 use Rattle.std.proofs.lemmas.Bool.{and_parts, and_from, eqb-true, false≢true}
-use Rattle.std.proofs.lemmas.Option.{none-some, same_Some, slice_get-map, option_and_then_some}
+use Rattle.std.proofs.lemmas.Option.{same_Some, slice_get-map, option_and_then_some}
 use Rattle.sequence.specs.Options.{all_there}
 use Rattle.sequence.proofs.Booleans.{eqb_self}
 use Rattle.sequence.proofs.Bytes.{same_bytes, bytes_same}
@@ -25,7 +25,7 @@ use Rattle.program_tree.specs.Fits.{may_follow as may_stand_behind, are_in_order
 use Rattle.flow_program.specs.Rules.{same_surface, same_surfaces, is_equality_test, is_equality_within, may_follow, are_in_order}
 use Rattle.flow_program.specs.internal.Numbering.{small, numbered, numbered_term, numbered_terms, numbered_test, numbered_equated}
 use Rattle.flow_program.specs.internal.Numbering.{probe_with, equated_of}
-use Rattle.flow_program.proofs.NumberLemmas.{place_at}
+use Rattle.flow_program.proofs.NumberLemmas.{place_at, there_parts, small_same}
 
 module _ (names : List NameEntry) (text : List ℕ) where
   -- ---- parts of what has numbers
@@ -167,13 +167,6 @@ module _ (names : List NameEntry) (text : List ℕ) where
   abbrev pub IsEquated : PlacedLine → EquatedTree → Type 0
   IsEquated e x = (numbered_test names text e.test ≡ Some x.probe) × (e.step ≡ x.offset)
 
-  small_same : (n k : ℕ) → small n ≡ Some k → n ≡ k
-  small_same n k is = by (nat_lt n (2 ^ 32)) is
-    where
-      by : (b : Bool) → cond b (Some n) None ≡ Some k → n ≡ k
-      by true e = same_Some n k e
-      by false e = absurd (none-some k e)
-
   equated_parts : (e : PlacedLine) (x : EquatedTree) → numbered_equated names text e ≡ Some x → IsEquated e x
   equated_parts e x is =
       option_and_then_some _ (numbered_test names text e.test) x is (λ p p_is made.
@@ -191,15 +184,9 @@ module _ (names : List NameEntry) (text : List ℕ) where
   pub are_equated : (es : List PlacedLine) (xs : List EquatedTree) → all_there (map (numbered_equated names text) es) ≡ Some xs →
       AreEquated es xs
   are_equated [] xs is = subst (AreEquated []) (same_Some [] xs is) tt
-  are_equated (e ∷ es) xs is = by (are_equated es) (numbered_equated names text e) refl is
-    where
-      by : ((ys : List EquatedTree) → all_there (map (numbered_equated names text) es) ≡ Some ys → AreEquated es ys) →
-          (o : Option EquatedTree) → numbered_equated names text e ≡ o → all_there (o ∷ map (numbered_equated names text) es) ≡ Some xs →
-          AreEquated (e ∷ es) xs
-      by rest None at there = absurd (none-some xs there)
-      by rest (Some x) at there =
-          let behind = some_mapped (λ ys. x ∷ ys) (all_there (map (numbered_equated names text) es)) xs there in
-          subst (AreEquated (e ∷ es)) behind.2 (equated_parts e x at, rest behind.0 behind.1)
+  are_equated (e ∷ es) xs is =
+      let parts = there_parts (numbered_equated names text) e es xs is in
+      subst (AreEquated (e ∷ es)) parts.4 (equated_parts e parts.0 parts.2, are_equated es parts.1 parts.3)
 
   -- each test is one of equality
   abbrev pub AreEqualityTests : List PlacedLine → Type 0

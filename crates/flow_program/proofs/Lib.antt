@@ -5,6 +5,7 @@ pub mod NumberLemmas
 pub mod UseLemmas
 pub mod WithUses
 pub mod KnownUses
+pub mod CellPlaces
 pub mod SpelledLines
 pub mod EquatedLines
 pub mod ResolvedTerms

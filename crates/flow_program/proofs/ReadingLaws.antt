@@ -74,39 +74,6 @@ rule_fault_spells_none text given names e p distinct goes fault h =
     let never : Some e ≡ None = sym fault.fault_is ∙ ap (fault_of text given) lines ∙ r.no_fault given goes in
     absurd (cc)
 
-pub refused_spells_none : (text : List ℕ) (given names : List Name) (e : ProgramError) (p : ProgramTree) → AreDistinct names →
-    GoOnFrom given names → IsOfProgramText e → HasProgramCause text given e → ProgramText text names p → ⊥
-refused_spells_none text given names (Form n) p distinct goes is cause h =
-    let r : ListingOfProgram text names p = listing_of_program text names distinct p h in
-    cause.none r.listing (is_listing_of text names p r)
-refused_spells_none text given names NoMemory p distinct goes is cause h = absurd is
-refused_spells_none text given names (Order n) p distinct goes is cause h = rule_fault_spells_none text given names
-    (Order n) p distinct goes cause h
-refused_spells_none text given names (Target n) p distinct goes is cause h = rule_fault_spells_none text given names
-    (Target n) p distinct goes cause h
-refused_spells_none text given names (Updates n) p distinct goes is cause h = rule_fault_spells_none text given names
-    (Updates n) p distinct goes cause h
-refused_spells_none text given names (Window n) p distinct goes is cause h = rule_fault_spells_none text given names
-    (Window n) p distinct goes cause h
-refused_spells_none text given names (Unknown n at) p distinct goes is cause h =
-    rule_fault_spells_none text given names (Unknown n at) p distinct goes cause h
-refused_spells_none text given names (Kind n at) p distinct goes is cause h = rule_fault_spells_none text given names
-    (Kind n at) p distinct goes cause h
-refused_spells_none text given names (Arity n at) p distinct goes is cause h = rule_fault_spells_none text given names
-    (Arity n at) p distinct goes cause h
-refused_spells_none text given names Windows p distinct goes is cause h =
-    rule_fault_spells_none text given names Windows p distinct goes cause h
-refused_spells_none text given names Nodes p distinct goes is cause h =
-    rule_fault_spells_none text given names Nodes p distinct goes cause h
-refused_spells_none text given names States p distinct goes is cause h =
-    rule_fault_spells_none text given names States p distinct goes cause h
-
--- ---- a text has one cause
-
-one_rule : (text : List ℕ) (given : List Name) (e f : ProgramError) → HasRuleFault text given e → HasRuleFault text given f → e ≡ f
-one_rule text given e f h k =
-    same_Some e f (sym h.fault_is ∙ ap (fault_of text given) (one_listing text h.listing k.listing h.is_listing k.is_listing) ∙ k.fault_is)
-
 -- a cause that is not of the form is a fault of a listing
 data Cause (text : List ℕ) (given : List Name) (e : ProgramError) : Type 0 where
   of_form : (n : ℕ) → e ≡ Form n → FormFault text n → Cause text given e
@@ -125,6 +92,21 @@ cause_is text given (Arity n at) is h = of_rule h
 cause_is text given Windows is h = of_rule h
 cause_is text given Nodes is h = of_rule h
 cause_is text given States is h = of_rule h
+
+pub refused_spells_none : (text : List ℕ) (given names : List Name) (e : ProgramError) (p : ProgramTree) → AreDistinct names →
+    GoOnFrom given names → IsOfProgramText e → HasProgramCause text given e → ProgramText text names p → ⊥
+refused_spells_none text given names e p distinct goes is cause h = by (cause_is text given e is cause) where
+  by : Cause text given e → ⊥
+  by (of_form n a x) =
+      let r : ListingOfProgram text names p = listing_of_program text names distinct p h in
+      x.none r.listing (is_listing_of text names p r)
+  by (of_rule x) = rule_fault_spells_none text given names e p distinct goes x h
+
+-- ---- a text has one cause
+
+one_rule : (text : List ℕ) (given : List Name) (e f : ProgramError) → HasRuleFault text given e → HasRuleFault text given f → e ≡ f
+one_rule text given e f h k =
+    same_Some e f (sym h.fault_is ∙ ap (fault_of text given) (one_listing text h.listing k.listing h.is_listing k.is_listing) ∙ k.fault_is)
 
 pub one_cause : (text : List ℕ) (given : List Name) (e f : ProgramError) → IsOfProgramText e → IsOfProgramText f →
     HasProgramCause text given e →

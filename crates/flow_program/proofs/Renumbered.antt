@@ -1,5 +1,5 @@
 -- A program text over two lists of names: its windows that are congruent over the first are congruent over the second.
-use Rattle.std.proofs.Common.{◌≡◌, ℕ, ◌∷◌, [], List, map, refl, ap, sym, ◌∙◌, subst}
+use Rattle.std.proofs.Common.{◌≡◌, ℕ, ◌∷◌, [], List, map, ap, sym, ◌∙◌, subst}
 use Rattle.std.specs.Prelude.{Option, Some, None, option_map, option_and_then, slice_get}
 use Rattle.std.specs.List.{AllByRecursion}
 use Rattle.std.specs.Option.{option_map_or}
@@ -23,7 +23,7 @@ use Rattle.flow_program.specs.Reading.{IsReading}
 use Rattle.flow_program.specs.internal.Numbering.{small, numbered, numbered_term, numbered_terms, numbered_test, probe_with}
 use Rattle.flow_program.specs.internal.Numbering.{listed_of, equated_of, window_of, numbered_listed, numbered_equated, numbered_left}
 use Rattle.flow_program.specs.internal.Numbering.{numbered_window, Numbered}
-use Rattle.flow_program.proofs.ResolvedLines.{place_at}
+use Rattle.flow_program.proofs.NumberLemmas.{place_at, there_parts, Parts, parts_of}
 use Rattle.flow_program.proofs.WrittenIsRead.ListingOfProgram.{ListingOfProgram, listing_of_program}
 use Rattle.flow_program.proofs.ReadingLaws.{is_listing_of, names_read_are_distinct}
 use Rattle.flow_program.proofs.Renamed.{renamed, all_renamed, probe_renamed, listed_renamed, equated_renamed, window_renamed}
@@ -35,21 +35,12 @@ both_made : {X Y : Type 0} (f g : X → Option Y) (rename : Y → Y) (P : Y → 
     all_there (map f xs) ≡ Some made → all_there (map g xs) ≡ Some others → (others ≡ map rename made) × AllByRecursion P made
 both_made f g rename P each [] made others is too =
     subst (λ ys. (others ≡ map rename ys) × AllByRecursion P ys) (same_Some [] made is) (sym (same_Some [] others too), tt)
-both_made {Y = Y} f g rename P each (x ∷ xs) made others is too = by (both_made f g rename P each xs) (f x) (g x) refl refl is too
-  where
-    by : ((cs ds : List Y) → all_there (map f xs) ≡ Some cs → all_there (map g xs) ≡ Some ds →
-        (ds ≡ map rename cs) × AllByRecursion P cs) →
-        (a b : Option Y) → f x ≡ a → g x ≡ b → all_there (a ∷ map f xs) ≡ Some made → all_there (b ∷ map g xs) ≡ Some others →
-        (others ≡ map rename made) × AllByRecursion P made
-    by rest None b at there e k = absurd cc
-    by rest (Some a) None at there e k = absurd cc
-    by rest (Some a) (Some b) at there e k =
-        let front = some_mapped (λ ys. a ∷ ys) (all_there (map f xs)) made e in
-        let other = some_mapped (λ ys. b ∷ ys) (all_there (map g xs)) others k in
-        let first = each x a b at there in
-        let behind = rest front.0 other.0 front.1 other.1 in
-        subst (λ ys. (others ≡ map rename ys) × AllByRecursion P ys) front.2
-        (sym other.2 ∙ (λ i. first.0 i ∷ behind.0 i), (first.1, behind.1))
+both_made f g rename P each (x ∷ xs) made others is too =
+    let a = there_parts f x xs made is in
+    let b = there_parts g x xs others too in
+    let first = each x a.0 b.0 a.2 b.2 in
+    let behind = both_made f g rename P each xs a.1 b.1 a.3 b.3 in
+    subst (λ ys. (others ≡ map rename ys) × AllByRecursion P ys) a.4 (sym b.4 ∙ (λ i. first.0 i ∷ behind.0 i), (first.1, behind.1))
 
 module _ (names more : List Name) where
   -- ---- the other numbers
@@ -253,50 +244,14 @@ module _ (names more : List Name) where
         subst (λ x. (m ≡ option_map (probe_renamed stands_for) x) × LeftHasNames stands_for IsNamed stands_apart x) a.2
         (sym b.2 ∙ ap Some test.is, test.arguments)
 
-    -- what a window's line is made of
-    record Parts (ns : List Name) (line : WindowLine) (w : WindowTree) : Type 0 where
-      left : numbered_left ns text line.left ≡ Some w.left
-      right : numbered_test ns text line.right.test ≡ Some w.right
-      left_at : small (left_step line.left) ≡ Some w.left_at
-      length : small line.right.step ≡ Some w.length
-      updates : all_there (map (numbered_listed ns text) line.updates) ≡ Some w.updates
-      equalities : all_there (map (numbered_equated ns text) line.equalities) ≡ Some w.equalities
-
-    parts_of : (ns : List Name) (line : WindowLine) (w : WindowTree) → numbered_window ns text line ≡ Some w → Parts ns line w
-    parts_of ns line w is =
-        option_and_then_some _ (numbered_left ns text line.left) w is (λ left left_is a.
-        option_and_then_some _ (numbered_test ns text line.right.test) w a (λ right right_is b.
-        option_and_then_some _ (small (left_step line.left)) w b (λ left_at left_at_is c.
-        option_and_then_some _ (small line.right.step) w c (λ length length_is d.
-        option_and_then_some _ (all_there (map (numbered_listed ns text) line.updates)) w d (λ us us_are e.
-        made left right left_at length us left_is right_is left_at_is length_is us_are
-        (some_mapped (window_of left right left_at length us)
-        (all_there (map (numbered_equated ns text) line.equalities)) w e))))))
-      where
-        made : (left : Option ProbeTree) (right : ProbeTree) (left_at length : ℕ) (us : List ListedTree) →
-            numbered_left ns text line.left ≡ Some left → numbered_test ns text line.right.test ≡ Some right →
-            small (left_step line.left) ≡ Some left_at → small line.right.step ≡ Some length →
-            all_there (map (numbered_listed ns text) line.updates) ≡ Some us →
-            (es : List EquatedTree) × (all_there (map (numbered_equated ns text) line.equalities) ≡ Some es)
-            × (window_of left right left_at length us es ≡ w) → Parts ns line w
-        made left right left_at length us left_is right_is left_at_is length_is us_are rest =
-            subst (Parts ns line) rest.2 (record {
-              left = left_is;
-              right = right_is;
-              left_at = left_at_is;
-              length = length_is;
-              updates = us_are;
-              equalities = rest.1;
-            })
-
     abbrev IsWindowRenamed : WindowTree → Type 0
     IsWindowRenamed = WindowHasNames stands_for IsNamed stands_apart
 
     pub window_renamed_too : (line : WindowLine) (v w : WindowTree) → numbered_window names text line ≡ Some v →
         numbered_window more text line ≡ Some w → (w ≡ window_renamed stands_for v) × IsWindowRenamed v
     window_renamed_too line v w is too =
-        let a : Parts names line v = parts_of names line v is in
-        let b : Parts more line w = parts_of more line w too in
+        let a : Parts names text line v = parts_of names text line v is in
+        let b : Parts more text line w = parts_of more text line w too in
         let left = left_renamed_too line.left v.left w.left a.left b.left in
         let right = test_renamed line.right.test v.right w.right a.right b.right in
         let updates = both_made (numbered_listed names text) (numbered_listed more text) (listed_renamed stands_for) HasListedNames

@@ -1,21 +1,19 @@
 -- The lines of a text that breaks no rule have their numbers, and are written as before.
-use Rattle.std.proofs.Common.{◌≡◌, ℕ, zero, suc, ◌^◌, ◌<◌, ◌≤◌, ◌==◌, Bool, true, false, ◌&&◌, ◌||◌, List, [], ◌∷◌, ◌++◌, refl, ap}
+use Rattle.std.proofs.Common.{◌≡◌, ℕ, zero, suc, ◌^◌, ◌<◌, ◌≤◌, ◌==◌, true, false, ◌&&◌, List, [], ◌∷◌, ◌++◌, refl, ap}
 use Rattle.std.proofs.Common.{sym, ◌∙◌}
 use Rattle.std.proofs.Common.{arith, length, map, codes, decimal, eq-eqb}
-use Rattle.std.specs.Prelude.{Option, Some, None, option_map, nat_le, nat_lt, cond, flat_map, slice_get}
+use Rattle.std.specs.Prelude.{Option, Some, None, option_map, nat_le, nat_lt, flat_map, slice_get}
 use Rattle.std.specs.List.{list_all, AllByRecursion}
 use Rattle.std.specs.Option.{is_some}
-use Rattle.std.proofs.lemmas.Bool.{and_from, and_parts, leb-true, ltb-true, lt-ltb}
+use Rattle.std.proofs.lemmas.Bool.{and_from, and_parts, leb-true, ltb-true}
 use Rattle.sequence.proofs.Each.{each_left, each_right, each_joined}
-use Rattle.sequence.proofs.Numbers.{among_at}
-use Rattle.sequence.proofs.Booleans.{eqb_self}
-use Rattle.sequence.specs.Numbers.{is_among, IsDistinct}
+use Rattle.sequence.specs.Numbers.{IsDistinct}
 use Rattle.sequence.specs.Options.{all_there}
 use Rattle.sequence.proofs.Gathered.{all_there_next}
 use Rattle.std.proofs.lemmas.Bool.{not-false}
 use Rattle.tsl_text.specs.Names.{is_usable}
 use Rattle.tsl_terms.specs.declared.names.NameKind.TheVariants.{Signal}
-use Rattle.tsl_terms.specs.Name.{number_of, is_name, AreDistinct, Name as NameEntry}
+use Rattle.tsl_terms.specs.Name.{is_name, AreDistinct, Name as NameEntry}
 use Rattle.sequence.proofs.Passes.{list_all_joined}
 use Rattle.tsl_terms.specs.TermTree.{ProbeTree, count_of_terms}
 use Rattle.tsl_terms.specs.WindowTree.{WindowTree, ListedTree, EquatedTree, left_probes, right_alone, window_probes, equality_probes}
@@ -26,9 +24,8 @@ use Rattle.tsl_terms.specs.OnlyThese.{reads_only, read_only}
 use Rattle.term_text.specs.TermText.{name_text, term_text, probe_text, update_text}
 use Rattle.term_text.specs.WindowText.{left_text, listed_text, equated_text, window_text}
 use Rattle.program_listing.specs.declared.listing.Name.{Name}
-use Rattle.program_tree.specs.Fits.{longest, rises, comes_before, left_is_shaped, equalities_are_shaped, window_is_shaped}
+use Rattle.program_tree.specs.Fits.{longest, rises, left_is_shaped, equalities_are_shaped, window_is_shaped}
 use Rattle.program_tree.specs.Fits.{window_reads_only, window_fits}
-use Rattle.program_tree.specs.Fits.{stands_before as stands_among}
 use Rattle.program_tree.specs.Writable.{signal_fits, term_is_writable, probe_is_writable, listed_is_writable}
 use Rattle.flow_program.specs.ProgramText.{declarations}
 use Rattle.program_tree.specs.Writable.{window_is_writable, HasEqualities}
@@ -38,27 +35,23 @@ use Rattle.program_listing.specs.internal.NamesStand.{is_surface, name_stands, l
 use Rattle.program_listing.specs.internal.NamesStand.{window_line_stands}
 use Rattle.program_listing.specs.Listing.{PlacedLine, WindowLine, left_step}
 use Rattle.flow_program.specs.Uses.{signal_use, listed_uses, placed_uses, left_uses, window_uses, windows_uses}
-use Rattle.flow_program.specs.Rules.{places_rise, place_of_cell, stands_before, listed_rise, is_cell_within, is_equality_test}
+use Rattle.flow_program.specs.Rules.{place_of_cell, listed_rise, is_cell_within, is_equality_test}
 use Rattle.flow_program.specs.Rules.{is_equality_within, are_in_order, right_fits, breaks_window}
-use Rattle.flow_program.specs.internal.Numbering.{small, numbered, numbered_test, numbered_listed, numbered_equated, numbered_left}
+use Rattle.flow_program.specs.internal.Numbering.{numbered, numbered_test, numbered_listed, numbered_equated, numbered_left}
 use Rattle.flow_program.specs.internal.Numbering.{numbered_window, listed_of, equated_of, window_of}
 use Rattle.flow_program.proofs.KnownUses.{Known, KnownUse}
 use Rattle.program_listing.specs.LineText.{word, named, LineTree, window, listed_pieces, placed_pieces, equated_pieces, left_pieces}
 use Rattle.program_listing.specs.LineText.{line_pieces, ended_pieces}
 use Rattle.program_listing.proofs.ListingFacts.{pieces_text}
 use Rattle.flow_program.proofs.NumberLemmas.{listed_numbered, equated_numbered, window_numbered}
-pub use Rattle.flow_program.proofs.NumberLemmas.{place_at}
+pub use Rattle.flow_program.proofs.NumberLemmas.{place_at, small_is}
 use Rattle.flow_program.proofs.EquatedLines.{equality_of_test, AreEquated, are_equated, in_order_alike, tests_within, offsets_within}
+use Rattle.flow_program.proofs.CellPlaces.{AreListed, are_listed, within_alike, rise_alike}
 use Rattle.flow_program.proofs.SpelledLines.{pieces_append, update_spelled, listed_spelled, placed_spelled, equated_spelled}
 use Rattle.flow_program.proofs.SpelledLines.{window_spelled, declaration_spelled}
 use Rattle.flow_program.proofs.ResolvedTerms.{is_named, is_named_usable, text_is, ResolvedTerm, resolved_term, term_writable, ResolvedTest}
 use Rattle.flow_program.proofs.ResolvedTerms.{resolved_test}
 use Rattle.flow_program.proofs.ResolvedTerms.{test_writable}
-
--- ---- lists whose members are all there
-
-pub small_is : (n : ℕ) → n < 2 ^ 32 → small n ≡ Some n
-small_is n h = ap (λ b. cond b (Some n) None) (lt-ltb n (2 ^ 32) h)
 
 module _ (names : List NameEntry) (text : List ℕ) where
   -- names have these numbers
@@ -104,19 +97,6 @@ module _ (names : List NameEntry) (text : List ℕ) where
       let others = declared_text w make form ds ids rest in
       pieces_append text (ended_pieces (make at)) (flat_map ended_pieces (map make ds)) ∙ (λ i. first i ++ others i)
 
-  -- the number of a text at a place
-  pub number_at : (ds : List Name) (ids : List ℕ) (i : ℕ) (bytes : List ℕ) → map (numbered names text) ds ≡ map Some ids →
-      slice_get (map (name_bytes text) ds) i ≡ Some bytes → (id : ℕ) × (slice_get ids i ≡ Some id) × (number_of names bytes ≡ Some id)
-  number_at [] ids i bytes is at = absurd (cc)
-  number_at (d ∷ ds) [] i bytes is at = absurd (cc)
-  number_at (d ∷ ds) (n ∷ ids) zero bytes is at =
-      let first : number_of names (name_bytes text d) ≡ Some n = cc in
-      let same : name_bytes text d ≡ bytes = cc in
-      (n, refl, ap (number_of names) (sym same) ∙ first)
-  number_at (d ∷ ds) (n ∷ ids) (suc i) bytes is at =
-      let rest : map (numbered names text) ds ≡ map Some ids = cc in
-      number_at ds ids i bytes rest at
-
   -- a name at a place of a list has the text of its number
   name_at : (ds : List Name) (ids : List ℕ) (i n : ℕ) → map (name_text names) ids ≡ map (name_bytes text) ds → slice_get ids i ≡ Some n →
       (m : NameEntry) × (slice_get (map (declared_entry text) ds) i ≡ Some m) × (m.text ≡ name_text names n)
@@ -137,93 +117,11 @@ module _ (names : List NameEntry) (text : List ℕ) where
       let b = name_at ds ids j n is too in
       distinct i j a.0 b.0 a.1 b.1 (a.2 ∙ sym b.2)
 
--- ---- a cell before another
-
-among_later : (cs : List ℕ) (i j r s : ℕ) → i < j → slice_get cs i ≡ Some r → slice_get cs j ≡ Some s → stands_among cs r s ≡ true
-among_later [] i j r s less at too = absurd (cc)
-among_later (c ∷ cs) zero zero r s less at too = absurd (omega (arith, less))
-among_later (c ∷ cs) zero (suc j) r s less at too =
-    let same : c ≡ r = cc in
-    ap (λ b. (b && is_among cs s) || stands_among cs r s) (ap (λ n. n == r) same ∙ eqb_self r)
-    ∙ ap (λ b. b || stands_among cs r s) (among_at cs j s too)
-among_later (c ∷ cs) (suc i) zero r s less at too = absurd (omega (arith, less))
-among_later (c ∷ cs) (suc i) (suc j) r s less at too =
-    ap (λ b. ((c == r) && is_among cs s) || b) (among_later cs i j r s (omega (arith, less)) at too) ∙ or_true ((c == r) && is_among cs s)
-  where
-    or_true : (b : Bool) → (b || true) ≡ true
-    or_true true = refl
-    or_true false = refl
-
-pub or_and_weaker : (a b c d : Bool) → (c ≡ true → d ≡ true) → (a || (b && c)) ≡ true → (a || (b && d)) ≡ true
-or_and_weaker true b c d f h = refl
-or_and_weaker false true c d f h = f h
-or_and_weaker false false c d f h = h
-
 -- what the cells are: their names, and their numbers
 module _ (names : List NameEntry) (readable : List ℕ) (text : List ℕ) (cell_names : List Name) (cells : List ℕ)
-    (cells_are : map (numbered names text) cell_names ≡ map Some cells) where
+    (cells_are : all_there (map (numbered names text) cell_names) ≡ Some cells) (once : IsDistinct cells) where
   abbrev pub texts_of_cells : List (List ℕ)
   texts_of_cells = map (name_bytes text) cell_names
-
-  abbrev pub AreKeys : List ListedLine → List ListedTree → Type 0
-  AreKeys [] [] = Unit {0}
-  AreKeys [] (t ∷ ts) = ⊥
-  AreKeys (u ∷ us) [] = ⊥
-  AreKeys (u ∷ us) (t ∷ ts) = (numbered names text u.signal ≡ Some t.signal) × ((t.offset ≡ u.offset) × AreKeys us ts)
-
-  -- a place among the texts of the cells is that of the number
-  place_of_number : (u : ListedLine) (s i : ℕ) → numbered names text u.signal ≡ Some s → place_of_cell text texts_of_cells u ≡ Some i →
-      slice_get cells i ≡ Some s
-  place_of_number u s i is placed =
-      let found = number_at names text cell_names cells i (name_bytes text u.signal) cells_are
-      (place_at texts_of_cells (name_bytes text u.signal) i placed) in
-      found.1 ∙ (sym found.2 ∙ is)
-
-  is_cell : (u : ListedLine) (s : ℕ) → numbered names text u.signal ≡ Some s → is_some (place_of_cell text texts_of_cells u) ≡ true →
-      is_among cells s ≡ true
-  is_cell u s is placed = by (place_of_cell text texts_of_cells u) refl placed where
-    by : (found : Option ℕ) → place_of_cell text texts_of_cells u ≡ found → is_some found ≡ true → is_among cells s ≡ true
-    by None e h = absurd (cc)
-    by (Some i) e h = among_at cells i s (place_of_number u s i is e)
-
-  rise : (u v : ListedLine) (r s : ℕ) → numbered names text u.signal ≡ Some r → numbered names text v.signal ≡ Some s →
-      places_rise (place_of_cell text texts_of_cells u) (place_of_cell text texts_of_cells v) ≡ true → stands_among cells r s ≡ true
-  rise u v r s is too h = by (place_of_cell text texts_of_cells u) (place_of_cell text texts_of_cells v) refl refl h where
-    by : (a b : Option ℕ) → place_of_cell text texts_of_cells u ≡ a → place_of_cell text texts_of_cells v ≡ b → places_rise a b ≡ true →
-        stands_among cells r s ≡ true
-    by None b e f k = absurd (cc)
-    by (Some i) None e f k = absurd (cc)
-    by (Some i) (Some j) e f k =
-        among_later cells i j r s (ltb-true i j k) (place_of_number u r i is e) (place_of_number v s j too f)
-
-  pub keys_within : (n : ℕ) (us : List ListedLine) (ts : List ListedTree) → AreKeys us ts →
-      list_all (is_cell_within text texts_of_cells n) us ≡ true → list_all (λ t. nat_lt t.offset n && is_among cells t.signal) ts ≡ true
-  keys_within n [] [] keys all = refl
-  keys_within n [] (t ∷ ts) keys all = absurd keys
-  keys_within n (u ∷ us) [] keys all = absurd keys
-  keys_within n (u ∷ us) (t ∷ ts) keys all =
-      let parts = and_parts (is_cell_within text texts_of_cells n u) (list_all (is_cell_within text texts_of_cells n) us) all in
-      let here = and_parts (nat_lt u.offset n) (is_some (place_of_cell text texts_of_cells u)) parts.0 in
-      and_from (nat_lt t.offset n && is_among cells t.signal) (list_all (λ v. nat_lt v.offset n && is_among cells v.signal) ts)
-      (and_from (nat_lt t.offset n) (is_among cells t.signal) (ap (λ k. nat_lt k n) keys.1.0 ∙ here.0) (is_cell u t.signal keys.0 here.1))
-      (keys_within n us ts keys.1.1 parts.1)
-
-  pub keys_rise : (us : List ListedLine) (ts : List ListedTree) → AreKeys us ts → listed_rise text texts_of_cells us ≡ true →
-      rises cells ts ≡ true
-  keys_rise [] [] keys h = refl
-  keys_rise [] (t ∷ ts) keys h = absurd keys
-  keys_rise (u ∷ us) [] keys h = absurd keys
-  keys_rise (u ∷ []) (t ∷ []) keys h = refl
-  keys_rise (u ∷ []) (t ∷ x ∷ ts) keys h = absurd keys.1.1
-  keys_rise (u ∷ v ∷ us) (t ∷ []) keys h = absurd keys.1.1
-  keys_rise (u ∷ v ∷ us) (t ∷ x ∷ ts) keys h =
-      let parts = and_parts (stands_before text texts_of_cells u v) (listed_rise text texts_of_cells (v ∷ us)) h in
-      let next = keys.1.1 in
-      and_from (comes_before cells t x) (rises cells (x ∷ ts))
-      (rw (keys.1.0, next.1.0) (or_and_weaker (nat_lt u.offset v.offset) (u.offset == v.offset)
-      (places_rise (place_of_cell text texts_of_cells u) (place_of_cell text texts_of_cells v)) (stands_among cells t.signal x.signal)
-      (rise u v t.signal x.signal keys.0 next.0) parts.0))
-      (keys_rise (v ∷ us) (x ∷ ts) next parts.1)
 
   -- ---- a listed update, and all of a window
 
@@ -233,8 +131,6 @@ module _ (names : List NameEntry) (readable : List ℕ) (text : List ℕ) (cell_
     pub writable : listed_is_writable names tree ≡ true
     pub spelled : pieces_text text (listed_pieces u) ≡ listed_text names tree
     pub reads : reads_only readable tree.term ≡ true
-    pub signal_is : numbered names text u.signal ≡ Some tree.signal
-    pub offset_is : tree.offset ≡ u.offset
 
   module _ (line : ℕ) where
     pub resolved_listed : (u : ListedLine) → AllByRecursion (KnownUse names readable) (listed_uses text line u) →
@@ -255,8 +151,6 @@ module _ (names : List NameEntry) (readable : List ℕ) (text : List ℕ) (cell_
           spelled = listed_spelled text u (update_text names s.number g.tree)
               (update_spelled text u.signal u.term (name_text names s.number) (term_text names g.tree) (sym signal_text) g.spelled);
           reads = g.reads;
-          signal_is = s.numbered;
-          offset_is = refl;
         }
 
     pub record ResolvedAllListed (us : List ListedLine) : Type 0 where
@@ -265,13 +159,12 @@ module _ (names : List NameEntry) (readable : List ℕ) (text : List ℕ) (cell_
       pub writable : list_all (listed_is_writable names) trees ≡ true
       pub spelled : pieces_text text (flat_map listed_pieces us) ≡ flat_map (listed_text names) trees
       pub reads : list_all (λ t. reads_only readable t.term) trees ≡ true
-      pub keys : AreKeys us trees
 
     pub resolved_all_listed : (n : ℕ) (us : List ListedLine) → n ≤ 2 ^ 32 →
         AllByRecursion (KnownUse names readable) (flat_map (listed_uses text line) us) →
         list_all (listed_line_stands text) us ≡ true → list_all (is_cell_within text texts_of_cells n) us ≡ true → ResolvedAllListed us
     resolved_all_listed n [] short k stand within =
-        record { trees = []; numbered_are = refl; writable = refl; spelled = refl; reads = refl; keys = tt }
+        record { trees = []; numbered_are = refl; writable = refl; spelled = refl; reads = refl }
     resolved_all_listed n (u ∷ us) short k stand within =
         let known = each_left (KnownUse names readable) (listed_uses text line u) (flat_map (listed_uses text line) us) k in
         let others = each_right (KnownUse names readable) (listed_uses text line u) (flat_map (listed_uses text line) us) k in
@@ -289,7 +182,6 @@ module _ (names : List NameEntry) (readable : List ℕ) (text : List ℕ) (cell_
           spelled = pieces_append text (listed_pieces u) (flat_map listed_pieces us) ∙ (λ i. head.spelled i ++ rest.spelled i);
           reads = and_from (reads_only readable head.tree.term) (list_all
               (λ t. reads_only readable t.term) rest.trees) head.reads rest.reads;
-          keys = (head.signal_is, (head.offset_is, rest.keys));
         }
 
     -- ---- tests at steps
@@ -469,6 +361,8 @@ module _ (names : List NameEntry) (readable : List ℕ) (text : List ℕ) (cell_
         let tree = window_of l.tree r.tree.probe (left_step w.left) w.right.step us.trees es.trees in
         let probes = map (λ (e : EquatedTree). e.probe) es.trees in
         let sides = left_probes l.tree ++ r.tree.probe ∷ [] in
+        let within_it = within_alike names text cell_names cells cells_are once in
+        let listed_are : AreListed names text w.updates us.trees = are_listed names text w.updates us.trees us.numbered_are in
         let are : AreEquated names text w.equalities es.trees = are_equated names text w.equalities es.trees es.numbered_are in
         let equal : HasEqualities names tree = each_joined (IsEquality (equality_in names)) probes (right_alone l.tree r.tree.probe) es.equal
         (l.alone w.right r.tree.probe (equality_of_test names text distinct w.right.test r.tree.probe r.test_is
@@ -490,8 +384,8 @@ module _ (names : List NameEntry) (readable : List ℕ) (text : List ℕ) (cell_
               (r.spelled ∙ ap (λ n. probe_text names r.tree.probe ++ codes " at " ++ decimal n) r.offset_is) us.spelled es.spelled;
           fits = and_from (window_is_shaped cells tree) (window_reads_only readable tree)
               (and_from _ (left_is_shaped l.tree (left_step w.left) && equalities_are_shaped tree)
-              (and_from _ _ keeps.short (and_from _ (rises cells us.trees) (keys_within w.right.step w.updates us.trees us.keys keeps.within)
-              (keys_rise w.updates us.trees us.keys keeps.rise)))
+              (and_from _ _ keeps.short (and_from _ (rises cells us.trees) (sym (within_it w.right.step w.updates us.trees listed_are) ∙ keeps.within)
+              (sym (rise_alike names text cell_names cells cells_are once w.updates us.trees listed_are) ∙ keeps.rise)))
               (and_from (left_is_shaped l.tree (left_step w.left)) (equalities_are_shaped tree) l.shaped
               (and_from _ _ (and_from _ _ (offsets_within names text w.right.step w.equalities es.trees are keeps.equalities)
               (sym (in_order_alike names text w.equalities es.trees are

@@ -9,7 +9,7 @@ use Rattle.std.proofs.lemmas.Bool.{ltb-false}
 use Rattle.std.proofs.lemmas.List.{map-append}
 use Rattle.sequence.proofs.Each.{each_from_places, each_left, each_right}
 use Rattle.sequence.proofs.Numbers.{among_at}
-use Rattle.sequence.specs.Numbers.{is_among}
+use Rattle.sequence.specs.Numbers.{is_among, IsDistinct}
 use Rattle.sequence.proofs.Options.{none_mapped}
 use Rattle.sequence.proofs.Finds.{find_none_at}
 use Rattle.sequence.proofs.Passes.{list_all_joined, passes_at}
@@ -44,7 +44,8 @@ use Rattle.std.proofs.lemmas.List.{append-nil}
 use Rattle.std.specs.Prelude.{flat_map}
 use Rattle.flow_program.proofs.UsesStand.{uses_usable}
 use Rattle.flow_program.proofs.WithUses.{are_first}
-use Rattle.flow_program.proofs.ResolvedLines.{place_at, ResolvedSignals, resolved_signals, all_numbered, declared_text, number_at}
+use Rattle.flow_program.proofs.CellPlaces.{place_of_number, second_once}
+use Rattle.flow_program.proofs.ResolvedLines.{ResolvedSignals, resolved_signals, all_numbered, declared_text}
 use Rattle.flow_program.proofs.ResolvedLines.{distinct_ids}
 use Rattle.flow_program.proofs.ResolvedLines.{ResolvedWindows, resolved_windows}
 use Rattle.flow_program.proofs.ResolvedNodes.{ResolvedNodes, resolved_nodes, ResolvedStates, resolved_states}
@@ -139,7 +140,7 @@ declared_known : (names : List NameEntry) (text : List ℕ) (line : ℕ) (ds : L
 declared_known names text line [] k = tt
 declared_known names text line (at ∷ ds) k = (k.0, declared_known names text (suc line) ds k.1)
 
-map_both : {X Y Z : Type 0} (f : X → Z) (g : Y → Z) (xs xs' : List X) (ys ys' : List Y) → map f xs ≡ map g ys → map f xs' ≡ map g ys' →
+pub map_both : {X Y Z : Type 0} (f : X → Z) (g : Y → Z) (xs xs' : List X) (ys ys' : List Y) → map f xs ≡ map g ys → map f xs' ≡ map g ys' →
     map f (xs ++ xs') ≡ map g (ys ++ ys')
 map_both f g xs xs' ys ys' h k = map-append f xs xs' ∙ (λ i. h i ++ k i) ∙ sym (map-append g ys ys')
 
@@ -210,11 +211,8 @@ module _ (text : List ℕ) (given : List NameEntry) (distinct : AreDistinct give
           let never : true ≡ false = sym (λ i. reads i && not (is_some (e i))) ∙ told in
           absurd (cc)
       by (Some i) e told =
-          let found = number_at names text (l.inputs ++ l.cells) readable i u.name.text readable_numbers
-          (place_at (readable_of text l) u.name.text i e) in
-          let same : Some found.0 ≡ Some k.number = sym found.2 ∙ k.numbered in
-          let number : found.0 ≡ k.number = cc in
-          among_at readable i k.number (found.1 ∙ ap Some number)
+          among_at readable i k.number (place_of_number names text (l.inputs ++ l.cells) readable
+          (all_numbered names text (l.inputs ++ l.cells) readable readable_numbers) u.name.text k.number i k.numbered e)
 
   known_use : (at : ℕ) (u : ProgramUse) → slice_get us at ≡ Some u → KnownUse names readable u
   known_use at u there = record {
@@ -246,8 +244,17 @@ module _ (text : List ℕ) (given : List NameEntry) (distinct : AreDistinct give
       subst AreDistinct (sym (are_first given (flat_map entries_of_use us) distinct)) (first_uses_distinct (given
       ++ flat_map entries_of_use us))
 
-  windows : ResolvedWindows names readable text l.cells cells.ids cells.numbers l.windows
-  windows = resolved_windows names readable text l.cells cells.ids cells.numbers names_distinct (first_window l) l.windows windows_known
+  signals_once : IsDistinct (readable ++ outputs.ids)
+  signals_once =
+      distinct_ids names text (declared l) (readable ++ outputs.ids)
+      (map_both (name_text names) (name_bytes text) readable outputs.ids (l.inputs ++ l.cells) l.outputs
+      (map_both (name_text names) (name_bytes text) inputs.ids cells.ids l.inputs l.cells inputs.spelled cells.spelled) outputs.spelled)
+      h.declared_once
+
+  windows : ResolvedWindows names readable text l.cells cells.ids (all_numbered names text l.cells cells.ids cells.numbers)
+      (second_once inputs.ids cells.ids outputs.ids signals_once) l.windows
+  windows = resolved_windows names readable text l.cells cells.ids (all_numbered names text l.cells cells.ids cells.numbers)
+      (second_once inputs.ids cells.ids outputs.ids signals_once) names_distinct (first_window l) l.windows windows_known
       stands.windows_stand
       keeps.windows
 
@@ -285,10 +292,7 @@ module _ (text : List ℕ) (given : List NameEntry) (distinct : AreDistinct give
 
   is_program : IsProgram program
   is_program = record {
-    signals_distinct = distinct_ids names text (declared l) (readable ++ outputs.ids)
-        (map_both (name_text names) (name_bytes text) readable outputs.ids (l.inputs ++ l.cells) l.outputs
-        (map_both (name_text names) (name_bytes text) inputs.ids cells.ids l.inputs l.cells inputs.spelled cells.spelled) outputs.spelled)
-        h.declared_once;
+    signals_distinct = signals_once;
     branches_fit = λ i a b t at.
         let fits = nodes.fit i (branch t a b) at in
         (subst (λ j. a < j) (from_zero i) fits.0, subst (λ j. b < j) (from_zero i) fits.1, fits.2);

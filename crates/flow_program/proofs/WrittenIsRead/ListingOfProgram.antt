@@ -1,70 +1,74 @@
 -- A text that spells a program has a listing, and its lines break no rule.
-use Rattle.std.proofs.Common.{◌≡◌, ℕ, zero, suc, ◌+◌, ◌<◌, ◌≤◌, ◌==◌, Bool, true, false, not, ◌&&◌, ◌||◌, cond, List, [], ◌∷◌, ◌++◌, refl}
+use Rattle.std.proofs.Common.{◌≡◌, ℕ, suc, ◌+◌, ◌<◌, ◌≤◌, Bool, true, false, not, ◌&&◌, cond, List, [], ◌∷◌, ◌++◌, refl}
 use Rattle.std.proofs.Common.{ap, sym, subst, ◌∙◌, arith, length, map, flat_map}
-use Rattle.std.proofs.Common.{append_assoc, length-append}
-use Rattle.std.specs.Prelude.{Option, Some, None, option_map, option_and_then, nat_le, nat_lt, codes, slice_get, find, bytes_eq, IsTrue}
+use Rattle.std.proofs.Common.{length-append}
+use Rattle.std.specs.Prelude.{Option, Some, None, option_map, option_and_then, nat_le, codes, slice_get, find, IsTrue}
 use Rattle.std.specs.List.{list_all, AllByRecursion}
 use Rattle.std.specs.Option.{is_some, option_map_or}
-use Rattle.std.proofs.lemmas.Bool.{and_from, and_parts, leb-true, ltb-true, lt-ltb, le-ltb}
-use Rattle.std.proofs.lemmas.Grind.{flat_map-append}
-use Rattle.std.proofs.lemmas.List.{map-append, append-nil}
+use Rattle.std.proofs.lemmas.Bool.{and_from, and_parts, lt-ltb, le-ltb}
+use Rattle.std.proofs.lemmas.List.{append-nil}
 use Rattle.std.proofs.lemmas.List.Folds.{list_all-map}
-use Rattle.sequence.proofs.Each.{each_joined, each_at, each_from_places, each_weaker}
+use Rattle.sequence.proofs.Each.{each_joined, each_at, each_from_places, each_weaker, each_left, each_right, each_unmapped}
 use Rattle.sequence.proofs.Numbers.{among_place}
-use Rattle.sequence.specs.Numbers.{is_among, IsDistinct}
+use Rattle.sequence.specs.Numbers.{IsDistinct}
 use Rattle.tsl_terms.specs.Name.{number_of, texts, AreDistinct, Name as NameEntry}
 use Rattle.tsl_terms.specs.Clashes.{with_use, with_uses, added_unless_found, alike_in_kind, same_arity}
-use Rattle.tsl_terms.specs.WindowTree.{WindowTree, ListedTree, EquatedTree, left_probes, window_probes}
-use Rattle.tsl_terms.specs.OnlyThese.{reads_only, read_only}
+use Rattle.tsl_terms.specs.WindowTree.{WindowTree, EquatedTree, right_alone}
 use Rattle.tsl_terms.specs.WellFormed.{is_usable_at}
 use Rattle.term_text.specs.TermText.{name_text}
-use Rattle.term_text.specs.WindowText.{window_text}
 use Rattle.program_listing.specs.declared.listing.Name.{Name}
 use Rattle.flow_program.specs.declared.reading.ProgramError.{ProgramError}
 use Rattle.program_tree.specs.NodeTree.{NodeTree, branch, assign}
 use Rattle.program_tree.specs.ProgramTree.{ProgramTree}
-use Rattle.program_tree.specs.Fits.{longest, rises, comes_before, left_is_shaped, equalities_are_shaped, window_fits, window_is_shaped}
-use Rattle.program_tree.specs.Fits.{window_reads_only, stands_before as stands_among, are_in_order as stand_in_order}
-use Rattle.program_tree.specs.Writable.{signal_fits, most_windows, most_nodes}
-use Rattle.flow_program.specs.ProgramText.{declarations, nodes_text, states_text, program_text}
+use Rattle.program_tree.specs.Fits.{longest, window_fits}
+use Rattle.program_tree.specs.Writable.{signal_fits, most_windows, most_nodes, HasEqualities}
+use Rattle.flow_program.specs.ProgramText.{program_text}
 use Rattle.program_tree.specs.Writable.{most_states}
 use Rattle.flow_program.specs.ProgramText.{ProgramText}
-use Rattle.program_listing.specs.LineText.{Piece, head_line, end_line, input, cell, output, window as window_tree_line, ended_pieces}
+use Rattle.program_listing.specs.LineText.{LineTree, head_line, end_line, input, cell, output, window as window_tree_line, ended_pieces}
 use Rattle.program_listing.specs.LineText.{line_is_within, node_lines, state_lines, listing_lines, Stand}
-use Rattle.program_listing.specs.Listing.{name_bytes, declared_entry, declared, ListedLine, WindowLine, ListingTree, left_step}
-use Rattle.flow_program.specs.Uses.{ProgramUse, question_entry, entries_of_use, names_after, declared_uses, windows_uses, nodes_uses}
+use Rattle.program_listing.specs.Listing.{name_bytes, declared_entry, declared, PlacedLine, WindowLine, ListingTree, left_step}
+use Rattle.flow_program.specs.Uses.{ProgramUse, question_entry, entries_of_use, names_after, declared_uses, window_uses, windows_uses, nodes_uses}
 use Rattle.flow_program.specs.Uses.{first_declaration, first_window, first_node, first_state, uses_of}
-use Rattle.flow_program.specs.Rules.{first_place, first_line, breaks_order, goes_nowhere, is_nowhere, breaks_updates, places_rise, place_in}
-use Rattle.flow_program.specs.Rules.{place_of_cell, stands_before, listed_rise, is_cell_within, is_equality_within, are_in_order, right_fits}
-use Rattle.flow_program.specs.Rules.{breaks_window, cell_texts, readable_of}
+use Rattle.flow_program.specs.Rules.{first_place, first_line, breaks_order, goes_nowhere, is_nowhere, breaks_updates, place_in}
+use Rattle.flow_program.specs.Rules.{is_cell_within, is_equality_within, right_fits}
+use Rattle.flow_program.specs.Rules.{breaks_window, cell_texts, readable_of, controlled_of}
 use Rattle.flow_program.specs.Rules.{is_unknown, is_unlike, at_line, at_use, over, first_there, line_fault, use_fault, limit_fault}
 use Rattle.flow_program.specs.Rules.{fault_of}
-use Rattle.std.proofs.lemmas.Bool.{eqb-true}
 use Rattle.std.proofs.lemmas.Option.{same_Some, slice_get-map}
-use Rattle.std.specs.List.{position_or_len}
 use Rattle.sequence.proofs.Booleans.{eqb_self}
 use Rattle.sequence.proofs.Places.{slice_get_grown, slice_get_some}
-use Rattle.flow_program.proofs.RuleLemmas.{texts_are}
-use Rattle.sequence.proofs.Bytes.{bytes_same}
+use Rattle.flow_program.proofs.RuleLemmas.{texts_are as entries_are}
 use Rattle.sequence.proofs.Finds.{find_none}
 use Rattle.sequence.proofs.Places.{slice_get_mapped}
 use Rattle.sequence.proofs.Passes.{list_all_joined, list_all_parts}
-use Rattle.sequence.proofs.Passes.{passes_at, each_from_list_all}
+use Rattle.sequence.proofs.Passes.{passes_at}
 use Rattle.tsl_terms.specs.declared.names.NameKind.{NameKind}
 use Rattle.tsl_terms.specs.declared.names.NameKind.TheVariants.{Signal, Function, Predicate}
 use Rattle.tsl_terms.specs.Name.{same_kind, is_name}
 use Rattle.flow_program.specs.Reading.{GoOnFrom}
 use Rattle.flow_program.specs.internal.Numbering.{Numbered}
-use Rattle.flow_program.proofs.ResolvedLines.{place_at, or_and_weaker}
-use Rattle.flow_program.proofs.EquatedLines.{in_order_alike, tests_within, lines_within}
+use Rattle.flow_program.proofs.SpelledLines.{eight_joined}
+use Rattle.flow_program.proofs.NumberLemmas.{place_at}
+use Rattle.flow_program.proofs.CellPlaces.{placed_some, second_once, AreListed, are_listed, within_alike, rise_alike}
+use Rattle.flow_program.proofs.EquatedLines.{are_equated, test_of_equality, in_order_alike, tests_within, lines_within}
 use Rattle.flow_program.proofs.WrittenIsRead.ListingOfTerms.{entry_of, its_number}
-use Rattle.flow_program.proofs.UseLemmas.{declared_append}
-use Rattle.flow_program.proofs.WrittenIsRead.Runs.{Run, a_word, joined, Occurs, occurs_left, occurs_right}
+use Rattle.flow_program.proofs.WrittenIsRead.Runs.{Run, Part, exactly, beside, made}
 use Rattle.flow_program.proofs.WrittenIsRead.ListingOfTerms.{HeldUse}
-use Rattle.flow_program.proofs.WrittenIsRead.ListingOfLines.{AreListed, KeptNode, ListingOfNodes, listing_of_nodes, KeptWindow, SameWindow}
-use Rattle.flow_program.proofs.WrittenIsRead.ListingOfLines.{AreWindows}
-use Rattle.flow_program.proofs.WrittenIsRead.ListingOfLines.{ListingOfWindows, listing_of_windows, ListingOfDeclared, listing_of_declared}
-use Rattle.flow_program.proofs.WrittenIsRead.ListingOfLines.{states_run, states_within, states_numbered}
+use Rattle.flow_program.proofs.WrittenIsRead.ListingOfLines.{KeptWindow, kept_window, IsKept, all_within as all_lines_within, lines_held}
+use Rattle.flow_program.proofs.WrittenIsRead.ListingOfLines.{window_line_within, AllWindows, windows_part, KeptNode, ListingOfNodes, nodes_part}
+use Rattle.flow_program.proofs.WrittenIsRead.ListingOfLines.{declared_use, AllDeclared, declared_part}
+use Rattle.flow_program.proofs.WrittenIsRead.ListingOfLines.{states_part, states_within, states_numbered}
+use Rattle.flow_program.proofs.NumberLemmas.{Parts, parts_of, small_same, there_at, numbered_texts}
+use Rattle.flow_program.proofs.ResolvedProgram.{map_both}
+use Rattle.flow_program.specs.internal.Numbering.{numbered, numbered_test, numbered_left}
+use Rattle.flow_program.specs.internal.Numbering.{numbered_window, numbered_node}
+use Rattle.sequence.specs.Options.{all_there}
+use Rattle.sequence.proofs.Gathered.{length-all_there}
+use Rattle.std.proofs.lemmas.List.{length-map}
+use Rattle.tsl_terms.specs.Equality.{equality_in}
+use Rattle.tsl_terms.specs.Congruence.{IsEquality}
+use Rattle.tsl_terms.specs.TermTree.{ProbeTree}
 
 -- ---- no fault
 
@@ -166,214 +170,55 @@ module _ (names : List NameEntry) where
         let b = entry_of names s Signal 0 (and_parts (is_name names s Signal 0) (is_usable_at names s) too).0 in
         distinct r s a.entry b.entry a.there b.there (sym a.text ∙ is ∙ b.text)
 
--- ---- places of texts
-
-text_before_end : (ts : List (List ℕ)) (i : ℕ) (t : List ℕ) → slice_get ts i ≡ Some t → position_or_len (bytes_eq t) ts < length ts
-text_before_end [] i t is = absurd (cc)
-text_before_end (x ∷ ts) zero t is =
-    let same : x ≡ t = cc in
-    let first : cond (not (bytes_eq t x)) (1 + position_or_len (bytes_eq t) ts) 0 ≡ 0 =
-    ap (λ b. cond (not b) (1 + position_or_len (bytes_eq t) ts) 0) (bytes_same t x (sym same)) in
-    omega (arith, first)
-text_before_end (x ∷ ts) (suc i) t is = by (bytes_eq t x) (text_before_end ts i t is) where
-  by : (b : Bool) → position_or_len (bytes_eq t) ts < length ts → cond (not b) (1 + position_or_len (bytes_eq t) ts) 0 < suc (length ts)
-  by true h = omega arith
-  by false h = omega (arith, h)
-
-placed_some : (ts : List (List ℕ)) (i : ℕ) (t : List ℕ) → slice_get ts i ≡ Some t → (k : ℕ) × (place_in ts t ≡ Some k)
-placed_some ts i t is = (
-  position_or_len (bytes_eq t) ts,
-  ap (λ b. cond b (Some (position_or_len (bytes_eq t) ts)) None) (lt-ltb (position_or_len (bytes_eq t) ts) (length ts)
-      (text_before_end ts i t is)),
-)
-
--- what stands at a place of a mapped list
--- one place stands before the other
-record InOrder (cs : List ℕ) (r s : ℕ) : Type 0 where
-  pub first : ℕ
-  pub second : ℕ
-  pub less : first < second
-  pub at_first : slice_get cs first ≡ Some r
-  pub at_second : slice_get cs second ≡ Some s
-
-in_order : (cs : List ℕ) (r s : ℕ) → stands_among cs r s ≡ true → InOrder cs r s
-in_order [] r s h = absurd (cc)
-in_order (c ∷ cs) r s h = by ((c == r) && is_among cs s) refl h (in_order cs r s) where
-  by : (b : Bool) → ((c == r) && is_among cs s) ≡ b → (b || stands_among cs r s) ≡ true → (stands_among cs r s ≡ true → InOrder cs r s) →
-      InOrder (c ∷ cs) r s
-  by true e k rest =
-      let parts = and_parts (c == r) (is_among cs s) e in
-      let place = among_place cs s parts.1 in
-      record { first = 0; second = suc place.0; less = omega arith; at_first = ap Some (eqb-true c r parts.0); at_second = place.1 }
-  by false e k rest =
-      let o : InOrder cs r s = rest k in
-      record { first = suc o.first; second = suc o.second; less = omega (arith, o.less); at_first = o.at_first; at_second = o.at_second }
-
 -- ---- windows
 
--- the parts of the shape of a window
-record ShapedWindow (cells : List ℕ) (x : WindowTree) : Type 0 where
-  pub short : (nat_le x.length longest && nat_le x.left_at x.length) ≡ true
-  pub updates : list_all (λ u. nat_lt u.offset x.length && is_among cells u.signal) x.updates ≡ true
-  pub rise : rises cells x.updates ≡ true
-  pub left : left_is_shaped x.left x.left_at ≡ true
-  pub offsets : list_all (λ e. nat_le e.offset x.length) x.equalities ≡ true
-  pub order : stand_in_order x.equalities ≡ true
+module _ (names : List NameEntry) (text : List ℕ) where
+  -- without a left test the right one is an equality
+  right_alone_fits : (left : Option PlacedLine) (l : Option ProbeTree) (right : PlacedLine) (r : ProbeTree) →
+      numbered_left names text left ≡ Some l → numbered_test names text right.test ≡ Some r →
+      AllByRecursion (IsEquality (equality_in names)) (right_alone l r) → right_fits text left right ≡ true
+  right_alone_fits (Some t) l right r is right_is equal = refl
+  right_alone_fits None l right r is right_is equal =
+      test_of_equality names text right.test r right_is
+      (subst (λ o. AllByRecursion (IsEquality (equality_in names)) (right_alone o r)) (sym (same_Some None l is)) equal).0
 
-shaped_window : (cells : List ℕ) (x : WindowTree) → window_is_shaped cells x ≡ true → ShapedWindow cells x
-shaped_window cells x shaped =
-    let halves = and_parts _ (left_is_shaped x.left x.left_at && equalities_are_shaped x) shaped in
-    let parts = and_parts (nat_le x.length longest && nat_le x.left_at x.length)
-    (list_all (λ u. nat_lt u.offset x.length && is_among cells u.signal) x.updates && rises cells x.updates) halves.0 in
-    let listed = and_parts (list_all (λ u. nat_lt u.offset x.length && is_among cells u.signal) x.updates) (rises cells x.updates) parts.1 in
-    let sides = and_parts (left_is_shaped x.left x.left_at) (equalities_are_shaped x) halves.1 in
-    let equalities = and_parts (list_all (λ e. nat_le e.offset x.length) x.equalities && stand_in_order x.equalities) _ sides.1 in
-    let ordered = and_parts (list_all (λ e. nat_le e.offset x.length) x.equalities) (stand_in_order x.equalities) equalities.0 in
-    record {
-      short = parts.0;
-      updates = listed.0;
-      rise = listed.1;
-      left = sides.0;
-      offsets = ordered.0;
-      order = ordered.1;
-    }
+module _ (names : List NameEntry) (readable : List ℕ) (text : List ℕ) (cell_names : List Name) (cells : List ℕ)
+    (cells_are : all_there (map (numbered names text) cell_names) ≡ Some cells) (once : IsDistinct cells) where
+  abbrev texts_of_cells : List (List ℕ)
+  texts_of_cells = map (name_bytes text) cell_names
 
-module _ (names : List NameEntry) (distinct : AreDistinct names) (readable : List ℕ) (text : List ℕ) (cells : List ℕ)
-    (cells_fit : list_all (signal_fits names) cells ≡ true) (once : IsDistinct cells) (texts_of_cells : List (List ℕ))
-    (cells_are : texts_of_cells ≡ map (name_text names) cells) where
-  -- the place of a cell among the texts is its place among the numbers
-  cell_place : (i s : ℕ) → slice_get cells i ≡ Some s → place_in texts_of_cells (name_text names s) ≡ Some i
-  cell_place i s is =
-      let there : slice_get texts_of_cells i ≡ Some (name_text names s) =
-      ap (λ ts. slice_get ts i) cells_are ∙ slice_get-map (name_text names) cells i ∙ ap (option_map (name_text names)) is in
-      let found = placed_some texts_of_cells i (name_text names s) there in
-      let stands : slice_get (map (name_text names) cells) found.0 ≡ Some (name_text names s) =
-      ap (λ ts. slice_get ts found.0) (sym cells_are) ∙ place_at texts_of_cells (name_text names s) found.0 found.1 in
-      let other = slice_get_mapped (name_text names) cells found.0 (name_text names s) stands in
-      let same : other.0 ≡ s = same_id names distinct other.0 s (passes_at (signal_fits names) cells found.0 other.0 cells_fit other.1)
-      (passes_at (signal_fits names) cells i s cells_fit is) other.2 in
-      let place : found.0 ≡ i = once found.0 i s (other.1 ∙ ap Some same) is in
-      found.1 ∙ ap Some place
-
-  all_within : (n : ℕ) (xs : List ListedTree) (us : List ListedLine) → AreListed names distinct readable text xs us →
-      list_all (λ x. nat_lt x.offset n && is_among cells x.signal) xs ≡ true → list_all (is_cell_within text texts_of_cells n) us ≡ true
-  all_within n [] [] are h = refl
-  all_within n [] (u ∷ us) are h = absurd are
-  all_within n (x ∷ xs) [] are h = absurd are
-  all_within n (x ∷ xs) (u ∷ us) are h =
-      let parts = and_parts (nat_lt x.offset n && is_among cells x.signal) (list_all
-      (λ y. nat_lt y.offset n && is_among cells y.signal) xs) h in
-      let here = and_parts (nat_lt x.offset n) (is_among cells x.signal) parts.0 in
-      let place = among_place cells x.signal here.1 in
-      let found : place_of_cell text texts_of_cells u ≡ Some place.0 = ap (place_in texts_of_cells) are.0
-      ∙ cell_place place.0 x.signal place.1 in
-      and_from (is_cell_within text texts_of_cells n u) (list_all (is_cell_within text texts_of_cells n) us)
-      (and_from (nat_lt u.offset n) (is_some (place_of_cell text texts_of_cells u)) (ap (λ k. nat_lt k n) are.1.0
-      ∙ here.0) (ap is_some found))
-      (all_within n xs us are.1.1 parts.1)
-
-  places_in_order : (x y : ListedTree) (u v : ListedLine) → name_bytes text u.signal ≡ name_text names x.signal →
-      name_bytes text v.signal ≡ name_text names y.signal → stands_among cells x.signal y.signal ≡ true →
-      places_rise (place_of_cell text texts_of_cells u) (place_of_cell text texts_of_cells v) ≡ true
-  places_in_order x y u v is too h =
-      let o : InOrder cells x.signal y.signal = in_order cells x.signal y.signal h in
-      let first : place_of_cell text texts_of_cells u ≡ Some o.first = ap (place_in texts_of_cells) is
-      ∙ cell_place o.first x.signal o.at_first in
-      let second : place_of_cell text texts_of_cells v ≡ Some o.second = ap (place_in texts_of_cells) too
-      ∙ cell_place o.second y.signal o.at_second in
-      (λ i. places_rise (first i) (second i)) ∙ lt-ltb o.first o.second o.less
-
-  all_rise : (xs : List ListedTree) (us : List ListedLine) → AreListed names distinct readable text xs us → rises cells xs ≡ true →
-      listed_rise text texts_of_cells us ≡ true
-  all_rise [] [] are h = refl
-  all_rise [] (u ∷ us) are h = absurd are
-  all_rise (x ∷ xs) [] are h = absurd are
-  all_rise (x ∷ []) (u ∷ []) are h = refl
-  all_rise (x ∷ []) (u ∷ v ∷ us) are h = absurd are.1.1
-  all_rise (x ∷ y ∷ xs) (u ∷ []) are h = absurd are.1.1
-  all_rise (x ∷ y ∷ xs) (u ∷ v ∷ us) are h =
-      let parts = and_parts (comes_before cells x y) (rises cells (y ∷ xs)) h in
-      let next = are.1.1 in
-      and_from (stands_before text texts_of_cells u v) (listed_rise text texts_of_cells (v ∷ us))
-      (rw (are.1.0, next.1.0) (or_and_weaker (nat_lt x.offset y.offset) (x.offset == y.offset) (stands_among cells x.signal y.signal)
-      (places_rise (place_of_cell text texts_of_cells u) (place_of_cell text texts_of_cells v))
-      (places_in_order x y u v are.0 next.0) parts.0))
-      (all_rise (y ∷ xs) (v ∷ us) next parts.1)
-
-  pub window_keeps : (x : WindowTree) (w : WindowLine) (number : ℕ) → SameWindow names distinct readable text x w →
+  window_keeps : (x : WindowTree) (w : WindowLine) (number : ℕ) → numbered_window names text w ≡ Some x → HasEqualities names x →
       window_fits readable cells x ≡ true → breaks_window text texts_of_cells number w ≡ false
-  window_keeps x w number same fits =
-      let k : ShapedWindow cells x = shaped_window cells x (and_parts (window_is_shaped cells x) (window_reads_only readable x) fits).0 in
+  window_keeps x w number is equal fits =
+      let k : KeptWindow readable cells x = kept_window readable cells x fits in
+      let parts : Parts names text w x = parts_of names text w x is in
+      let length_is : w.right.step ≡ x.length = small_same w.right.step x.length parts.length in
+      let left_is : left_step w.left ≡ x.left_at = small_same (left_step w.left) x.left_at parts.left_at in
+      let are : AreListed names text w.updates x.updates = are_listed names text w.updates x.updates parts.updates in
+      let equal_are = are_equated names text w.equalities x.equalities parts.equalities in
+      let probes = map (λ (e : EquatedTree). e.probe) x.equalities in
+      let equalities = each_unmapped (IsEquality (equality_in names)) (λ (e : EquatedTree). e.probe) x.equalities
+      (each_left (IsEquality (equality_in names)) probes (right_alone x.left x.right) equal) in
+      let alone = each_right (IsEquality (equality_in names)) probes (right_alone x.left x.right) equal in
       let within : list_all (is_equality_within text w.right.step) w.equalities ≡ true =
-      ap (λ n. list_all (is_equality_within text n) w.equalities) same.length_is
-      ∙ lines_within names text x.length w.equalities x.equalities same.equal_are k.offsets same.equal in
+      ap (λ n. list_all (is_equality_within text n) w.equalities) length_is
+      ∙ lines_within names text x.length w.equalities x.equalities equal_are k.offsets equalities in
       ap not (and_from _ _
-      (and_from (nat_le w.right.step longest && nat_le (left_step w.left) w.right.step)
-      (list_all (is_cell_within text texts_of_cells w.right.step) w.updates && listed_rise text texts_of_cells w.updates)
-      ((λ i. nat_le (same.length_is i) longest && nat_le (same.left_at_is i) (same.length_is i)) ∙ k.short)
-      (and_from (list_all (is_cell_within text texts_of_cells w.right.step) w.updates) (listed_rise text texts_of_cells w.updates)
-      (ap (λ n. list_all (is_cell_within text texts_of_cells n) w.updates) same.length_is
-      ∙ all_within x.length x.updates w.updates same.are k.updates)
-      (all_rise x.updates w.updates same.are k.rise)))
-      (and_from (right_fits text w.left w.right)
-      (list_all (is_equality_within text w.right.step) w.equalities && are_in_order text w.equalities) same.right_is
-      (and_from (list_all (is_equality_within text w.right.step) w.equalities) (are_in_order text w.equalities) within
-      (in_order_alike names text w.equalities x.equalities same.equal_are (tests_within names text w.right.step w.equalities within)
-      ∙ k.order))))
+      (and_from _ _ ((λ i. nat_le (length_is i) longest && nat_le (left_is i) (length_is i)) ∙ k.short)
+      (and_from _ _ (ap (λ n. list_all (is_cell_within text texts_of_cells n) w.updates) length_is
+      ∙ within_alike names text cell_names cells cells_are once x.length w.updates x.updates are ∙ k.updates)
+      (rise_alike names text cell_names cells cells_are once w.updates x.updates are ∙ k.rise)))
+      (and_from _ _ (right_alone_fits names text w.left x.left w.right x.right parts.left parts.right alone)
+      (and_from _ _ within
+      (in_order_alike names text w.equalities x.equalities equal_are (tests_within names text w.right.step w.equalities within) ∙ k.order))))
 
-  pub windows_keep : (xs : List WindowTree) (ws : List WindowLine) → AreWindows names distinct readable text xs ws →
-      list_all (window_fits readable cells) xs ≡ true → (i : ℕ) (w : WindowLine) → slice_get ws i ≡ Some w → (number : ℕ) →
-      breaks_window text texts_of_cells number w ≡ false
-  windows_keep [] [] are fits i w is number = absurd (cc)
-  windows_keep [] (v ∷ ws) are fits i w is number = absurd are
-  windows_keep (x ∷ xs) [] are fits i w is number = absurd are
-  windows_keep (x ∷ xs) (v ∷ ws) are fits zero w is number =
-      let same : v ≡ w = cc in
-      ap (breaks_window text texts_of_cells number) (sym same)
-      ∙ window_keeps x v number are.0 (and_parts (window_fits readable cells x) (list_all (window_fits readable cells) xs) fits).0
-  windows_keep (x ∷ xs) (v ∷ ws) are fits (suc i) w is number =
-      windows_keep xs ws are.1 (and_parts (window_fits readable cells x) (list_all (window_fits readable cells) xs) fits).1 i w is number
-
--- what a window that fits keeps
-offsets_below : (n : ℕ) (cells : List ℕ) (xs : List ListedTree) → list_all (λ u. nat_lt u.offset n && is_among cells u.signal) xs ≡ true →
-    (i : ℕ) (u : ListedTree) → slice_get xs i ≡ Some u → u.offset < n
-offsets_below n cells [] h i u is = absurd (cc)
-offsets_below n cells (x ∷ xs) h zero u is =
-    let same : x ≡ u = cc in
-    let parts = and_parts (nat_lt x.offset n && is_among cells x.signal) (list_all
-    (λ y. nat_lt y.offset n && is_among cells y.signal) xs) h in
-    subst (λ y. y.offset < n) same (ltb-true x.offset n (and_parts (nat_lt x.offset n) (is_among cells x.signal) parts.0).0)
-offsets_below n cells (x ∷ xs) h (suc i) u is =
-    offsets_below n cells xs (and_parts (nat_lt x.offset n && is_among cells x.signal)
-    (list_all (λ y. nat_lt y.offset n && is_among cells y.signal) xs) h).1 i u is
-
-kept_window : (readable cells : List ℕ) (x : WindowTree) → window_fits readable cells x ≡ true → KeptWindow readable x
-kept_window readable cells x fits =
-    let halves = and_parts (window_is_shaped cells x) (window_reads_only readable x) fits in
-    let k : ShapedWindow cells x = shaped_window cells x halves.0 in
-    let short = and_parts (nat_le x.length longest) (nat_le x.left_at x.length) k.short in
-    let probes = map (λ (e : EquatedTree). e.probe) x.equalities in
-    let reads = and_parts (list_all (λ p. read_only readable p.arguments) (window_probes x))
-    (list_all (λ u. reads_only readable u.term) x.updates) halves.1 in
-    let tests = list_all_parts (λ p. read_only readable p.arguments) probes (left_probes x.left ++ x.right ∷ []) reads.0 in
-    let sides = list_all_parts (λ p. read_only readable p.arguments) (left_probes x.left) (x.right ∷ []) tests.1 in
-    record {
-      length_short = leb-true x.length longest short.0;
-      left_short = leb-true x.left_at x.length short.1;
-      below = offsets_below x.length cells x.updates k.updates;
-      within = k.offsets;
-      left_is = k.left;
-      left_reads = sides.0;
-      right_reads = (and_parts (read_only readable x.right.arguments) true sides.1).0;
-      equalities_read = sym (list_all-map (λ p. read_only readable p.arguments) (λ (e : EquatedTree). e.probe) x.equalities) ∙ tests.0;
-      reads = reads.1;
-    }
-
-kept_windows : (readable cells : List ℕ) (xs : List WindowTree) → list_all (window_fits readable cells) xs ≡ true →
-    AllByRecursion (KeptWindow readable) xs
-kept_windows readable cells xs h =
-    each_weaker (λ x. window_fits readable cells x ≡ true) (KeptWindow readable) (kept_window readable cells) xs
-    (each_from_list_all (window_fits readable cells) xs h)
+  pub windows_keep : (xs : List WindowTree) (ws : List WindowLine) → all_there (map (numbered_window names text) ws) ≡ Some xs →
+      AllByRecursion (HasEqualities names) xs → list_all (window_fits readable cells) xs ≡ true → (i : ℕ) (w : WindowLine) →
+      slice_get ws i ≡ Some w → (number : ℕ) → breaks_window text texts_of_cells number w ≡ false
+  windows_keep xs ws are equal fits i w is number =
+      let x = there_at (numbered_window names text) ws xs i w are is in
+      window_keeps x.0 w number x.2 (each_at (HasEqualities names) xs i x.0 equal x.1) (passes_at
+      (window_fits readable cells) xs i x.0 fits x.1)
 
 -- ---- the whole program
 
@@ -393,50 +238,14 @@ declared_apart names distinct text ds ids are fits once i j m n is too same =
         (id : ℕ) × (slice_get ids k ≡ Some id) × (name_text names id ≡ e.text)
     id_at k e there =
         slice_get_mapped (name_text names) ids k e.text
-        (ap (λ ts. slice_get ts k) (sym are) ∙ ap (λ ts. slice_get ts k) (sym (texts_are text ds))
+        (ap (λ ts. slice_get ts k) (sym are) ∙ ap (λ ts. slice_get ts k) (sym (entries_are text ds))
         ∙ slice_get-map (λ f. f.text) (map (declared_entry text) ds) k ∙ ap (option_map (λ f. f.text)) there)
 
-eight_apart : (a b c d e f g h : List Piece) →
-    ((((((a ++ b) ++ c) ++ d) ++ e) ++ f) ++ g) ++ h ≡ a ++ (b ++ (c ++ (d ++ (e ++ (f ++ (g ++ h))))))
-eight_apart a b c d e f g h = simp append_assoc
-
--- the pieces of a listing, kind by kind
-pieces_are : (l : ListingTree) → flat_map ended_pieces (listing_lines l) ≡
-    ended_pieces head_line ++ (flat_map ended_pieces (map input l.inputs) ++ (flat_map ended_pieces (map cell l.cells)
-    ++ (flat_map ended_pieces (map output l.outputs) ++ (flat_map ended_pieces (map window_tree_line l.windows)
-    ++ (flat_map ended_pieces (node_lines 0 l.nodes) ++ (flat_map ended_pieces (state_lines 0 l.states) ++ ended_pieces end_line))))))
-pieces_are l =
-    let s = state_lines 0 l.states in
-    let n = node_lines 0 l.nodes in
-    let w = map window_tree_line l.windows in
-    let o = map output l.outputs in
-    let c = map cell l.cells in
-    let i = map input l.inputs in
-    let end = end_line ∷ [] in
-    let f = flat_map ended_pieces in
-    ap (λ x. ended_pieces head_line ++ x) (flat_map-append ended_pieces i (c ++ (o ++ (w ++ (n ++ (s ++ end)))))
-    ∙ ap (λ x. f i ++ x) (flat_map-append ended_pieces c (o ++ (w ++ (n ++ (s ++ end))))
-    ∙ ap (λ x. f c ++ x) (flat_map-append ended_pieces o (w ++ (n ++ (s ++ end)))
-    ∙ ap (λ x. f o ++ x) (flat_map-append ended_pieces w (n ++ (s ++ end))
-    ∙ ap (λ x. f w ++ x) (flat_map-append ended_pieces n (s ++ end)
-    ∙ ap (λ x. f n ++ x) (flat_map-append ended_pieces s end))))))
-
-within_are : (l : ListingTree) → list_all line_is_within (map input l.inputs) ≡ true → list_all line_is_within (map cell l.cells) ≡ true →
-    list_all line_is_within (map output l.outputs) ≡ true → list_all line_is_within (map window_tree_line l.windows) ≡ true →
-    list_all line_is_within (node_lines 0 l.nodes) ≡ true → list_all line_is_within (state_lines 0 l.states) ≡ true →
-    list_all line_is_within (listing_lines l) ≡ true
-within_are l i c o w n s =
-    let p = line_is_within in
-    let end : list_all p (end_line ∷ []) ≡ true = refl in
-    let s' = list_all_joined p (state_lines 0 l.states) (end_line ∷ []) s end in
-    let n' = list_all_joined p (node_lines 0 l.nodes) (state_lines 0 l.states ++ end_line ∷ []) n s' in
-    let w' = list_all_joined p (map window_tree_line l.windows) (node_lines 0 l.nodes ++ (state_lines 0 l.states ++ end_line ∷ [])) w n' in
-    let o' = list_all_joined p (map output l.outputs) (map window_tree_line l.windows ++ (node_lines 0 l.nodes ++ (state_lines 0 l.states
-    ++ end_line ∷ []))) o w' in
-    let c' = list_all_joined p (map cell l.cells) (map output l.outputs ++ (map window_tree_line l.windows
-    ++ (node_lines 0 l.nodes ++ (state_lines 0 l.states ++ end_line ∷ [])))) c o' in
-    list_all_joined p (map input l.inputs) (map cell l.cells ++ (map output l.outputs ++ (map window_tree_line l.windows
-    ++ (node_lines 0 l.nodes ++ (state_lines 0 l.states ++ end_line ∷ []))))) i c'
+declared_within : (make : Name → LineTree) → ((n : Name) → line_is_within (make n) ≡ true) → (ats : List Name) →
+    list_all line_is_within (map make ats) ≡ true
+declared_within make is [] = refl
+declared_within make is (at ∷ ats) = and_from (line_is_within (make at)) (list_all line_is_within (map make ats)) (is at)
+    (declared_within make is ats)
 
 -- the listing of a text that spells a program
 pub record ListingOfProgram (text : List ℕ) (names : List NameEntry) (p : ProgramTree) : Type 0 where
@@ -467,90 +276,8 @@ module _ (text : List ℕ) (names : List NameEntry) (distinct : AreDistinct name
   outputs_fit : list_all (signal_fits names) p.outputs ≡ true
   outputs_fit = (list_all_parts (signal_fits names) p.cells p.outputs controlled_fit).1
 
-  cells_once : IsDistinct p.cells
-  cells_once i j n is too =
-      let e = h.is_program.signals_distinct (length p.inputs + i) (length p.inputs + j) n (behind i n is) (behind j n too) in
-      omega (arith, e)
-    where
-      after_inputs : (xs ys : List ℕ) (k : ℕ) → slice_get (xs ++ ys) (length xs + k) ≡ slice_get ys k
-      after_inputs [] ys k = ap (slice_get ys) (let e : 0 + k ≡ k = omega arith in e)
-      after_inputs (x ∷ xs) ys k =
-          ap (slice_get (x ∷ (xs ++ ys))) (let e : suc (length xs) + k ≡ suc (length xs + k) = omega arith in e) ∙ after_inputs xs ys k
-
-      behind : (k m : ℕ) → slice_get p.cells k ≡ Some m → slice_get ((p.inputs ++ p.cells) ++ p.outputs) (length p.inputs + k) ≡ Some m
-      behind k m there = slice_get_grown (p.inputs ++ p.cells) p.outputs (length p.inputs + k) m (after_inputs p.inputs p.cells k ∙ there)
-
-  abbrev H : List ℕ
-  H = codes "tslprogram 1\n"
-
-  abbrev A : List ℕ
-  A = declarations (codes "input ") names p.inputs
-
-  abbrev B : List ℕ
-  B = declarations (codes "cell ") names p.cells
-
-  abbrev C : List ℕ
-  C = declarations (codes "output ") names p.outputs
-
-  abbrev W : List ℕ
-  W = flat_map (window_text names) p.windows
-
-  abbrev N : List ℕ
-  N = nodes_text names (p.cells ++ p.outputs) 0 p.nodes
-
-  abbrev S : List ℕ
-  S = states_text 0 p.states
-
-  abbrev E : List ℕ
-  E = codes "end\n"
-
-  occurs : Occurs text [] (((((((H ++ A) ++ B) ++ C) ++ W) ++ N) ++ S) ++ E)
-  occurs = ([], h.text ∙ sym (append-nil (program_text names p)))
-
-  to_states : Occurs text [] ((((((H ++ A) ++ B) ++ C) ++ W) ++ N) ++ S)
-  to_states = occurs_left text [] ((((((H ++ A) ++ B) ++ C) ++ W) ++ N) ++ S) E occurs
-
-  to_nodes : Occurs text [] (((((H ++ A) ++ B) ++ C) ++ W) ++ N)
-  to_nodes = occurs_left text [] (((((H ++ A) ++ B) ++ C) ++ W) ++ N) S to_states
-
-  to_windows : Occurs text [] ((((H ++ A) ++ B) ++ C) ++ W)
-  to_windows = occurs_left text [] ((((H ++ A) ++ B) ++ C) ++ W) N to_nodes
-
-  to_outputs : Occurs text [] (((H ++ A) ++ B) ++ C)
-  to_outputs = occurs_left text [] (((H ++ A) ++ B) ++ C) W to_windows
-
-  to_cells : Occurs text [] ((H ++ A) ++ B)
-  to_cells = occurs_left text [] ((H ++ A) ++ B) C to_outputs
-
-  a : ListingOfDeclared names distinct readable text (codes "input ") input p.inputs H
-  a = listing_of_declared names distinct readable text (codes "input ") input (λ n. refl) (λ n. refl) p.inputs H inputs_fit
-      (occurs_right text [] H A (occurs_left text [] (H ++ A) B to_cells))
-
-  b : ListingOfDeclared names distinct readable text (codes "cell ") cell p.cells (H ++ A)
-  b = listing_of_declared names distinct readable text (codes "cell ") cell (λ n. refl) (λ n. refl) p.cells (H ++ A) cells_fit
-      (occurs_right text [] (H ++ A) B to_cells)
-
-  c : ListingOfDeclared names distinct readable text (codes "output ") output p.outputs ((H ++ A) ++ B)
-  c = listing_of_declared names distinct readable text (codes "output ") output (λ n. refl) (λ n. refl) p.outputs ((H ++ A) ++ B)
-      outputs_fit
-      (occurs_right text [] ((H ++ A) ++ B) C to_outputs)
-
-  w : ListingOfWindows names distinct readable text p.windows (((H ++ A) ++ B) ++ C)
-  w = listing_of_windows names distinct readable text p.windows (((H ++ A) ++ B) ++ C) h.is_writable.windows h.is_writable.equalities
-      (kept_windows readable p.cells p.windows h.is_program.windows_fit) (occurs_right text [] (((H ++ A) ++ B)
-      ++ C) W to_windows)
-
-  abbrev controlled_texts : List (List ℕ)
-  controlled_texts = map (name_bytes text) (b.ats ++ c.ats)
-
-  controlled_are : map (name_text names) (p.cells ++ p.outputs) ≡ controlled_texts
-  controlled_are =
-      map-append (name_text names) p.cells p.outputs ∙ (λ i. sym b.texts_are i ++ sym c.texts_are i)
-      ∙ sym (map-append (name_bytes text) b.ats c.ats)
-
   kept_nodes : (i : ℕ) (x : NodeTree) → slice_get p.nodes i ≡ Some x →
-      KeptNode names distinct readable text (p.cells ++ p.outputs) controlled_fit controlled_texts controlled_are (length p.states)
-      h.is_writable.few_states (0 + i) x
+      KeptNode names distinct readable text (p.cells ++ p.outputs) controlled_fit (length p.states) h.is_writable.few_states (0 + i) x
   kept_nodes i (branch t l r) is =
       let place : i ≡ 0 + i = omega arith in
       let fits = h.is_program.branches_fit i l r t is in
@@ -559,32 +286,83 @@ module _ (text : List ℕ) (names : List NameEntry) (distinct : AreDistinct name
       let fits = h.is_program.assignments_fit i go ts is in
       (fits.0 ∙ sym (length-append p.cells p.outputs), fits.1, fits.2)
 
-  n : ListingOfNodes names distinct readable text (p.cells ++ p.outputs) controlled_fit controlled_texts controlled_are (length p.states)
-      h.is_writable.few_states 0 p.nodes ((((H ++ A) ++ B) ++ C) ++ W)
-  n = listing_of_nodes names distinct readable text (p.cells ++ p.outputs) controlled_fit controlled_texts controlled_are (length p.states)
-      h.is_writable.few_states 0 p.nodes ((((H ++ A) ++ B) ++ C)
-      ++ W) (omega (arith, h.is_writable.few_nodes)) h.is_writable.nodes kept_nodes
-      (occurs_right text [] ((((H ++ A) ++ B) ++ C) ++ W) N to_nodes)
+  -- the lines of the program
+  record Lines : Type 0 where
+    inputs : AllDeclared names distinct readable text p.inputs
+    cells : AllDeclared names distinct readable text p.cells
+    outputs : AllDeclared names distinct readable text p.outputs
+    windows : AllWindows names distinct readable text p.windows
+    nodes : ListingOfNodes names distinct readable text (p.cells ++ p.outputs) controlled_fit (length p.states) h.is_writable.few_states 0
+        p.nodes
+
+  abbrev listing_at : Lines → ListingTree
+  listing_at l = record {
+    inputs = l.inputs.lines;
+    cells = l.cells.lines;
+    outputs = l.outputs.lines;
+    windows = l.windows.lines;
+    nodes = l.nodes.lines;
+    states = p.states;
+  }
+
+  lines_part : Part text (λ (l : Lines). flat_map ended_pieces (listing_lines (listing_at l))) (program_text names p)
+  lines_part =
+      let declared = declared_part names distinct readable text in
+      made (beside (beside (beside (beside (beside (beside (beside (beside (exactly (codes "tslprogram 1")) (exactly (codes "\n")))
+      (declared (codes "input ") input (λ n. refl) p.inputs inputs_fit)) (declared (codes "cell ") cell (λ n. refl) p.cells cells_fit))
+      (declared (codes "output ") output (λ n. refl) p.outputs outputs_fit))
+      (windows_part names distinct readable text p.cells p.windows h.is_writable.windows h.is_program.windows_fit))
+      (nodes_part names distinct readable text (p.cells ++ p.outputs) controlled_fit (length p.states) h.is_writable.few_states 0 p.nodes
+      (omega (arith, h.is_writable.few_nodes)) h.is_writable.nodes kept_nodes)) (states_part 0 p.states))
+      (beside (exactly (codes "end")) (exactly (codes "\n")))) refl (λ l. flat_map ended_pieces (listing_lines (listing_at l)))
+      (λ x. record {
+        inputs = x.0.0.0.0.0.0.1;
+        cells = x.0.0.0.0.0.1;
+        outputs = x.0.0.0.0.1;
+        windows = x.0.0.0.1;
+        nodes = x.0.0.1;
+      }) (λ x. eight_joined ended_pieces (head_line ∷ []) (map input x.0.0.0.0.0.0.1.lines) (map cell x.0.0.0.0.0.1.lines)
+      (map output x.0.0.0.0.1.lines) (map window_tree_line x.0.0.0.1.lines) (node_lines 0 x.0.0.1.lines) (state_lines 0 p.states)
+      (end_line ∷ []))
+
+  found : (l : Lines) × Run (flat_map ended_pieces (listing_lines (listing_at l))) [] (program_text names p)
+  found = lines_part.runs [] ([], h.text ∙ sym (append-nil (program_text names p)))
+
+  abbrev a : AllDeclared names distinct readable text p.inputs
+  a = found.0.inputs
+
+  abbrev b : AllDeclared names distinct readable text p.cells
+  b = found.0.cells
+
+  abbrev c : AllDeclared names distinct readable text p.outputs
+  c = found.0.outputs
+
+  abbrev w : AllWindows names distinct readable text p.windows
+  w = found.0.windows
+
+  abbrev n : ListingOfNodes names distinct readable text (p.cells ++ p.outputs) controlled_fit (length p.states) h.is_writable.few_states 0
+      p.nodes
+  n = found.0.nodes
 
   abbrev listing : ListingTree
-  listing = record { inputs = a.ats; cells = b.ats; outputs = c.ats; windows = w.lines; nodes = n.lines; states = p.states }
+  listing = listing_at found.0
 
-  runs : Run (flat_map ended_pieces (listing_lines listing)) [] (((((((H ++ A) ++ B) ++ C) ++ W) ++ N) ++ S) ++ E)
-  runs =
-      let PH = ended_pieces head_line in
-      let PA = flat_map ended_pieces (map input a.ats) in
-      let PB = flat_map ended_pieces (map cell b.ats) in
-      let PC = flat_map ended_pieces (map output c.ats) in
-      let PW = flat_map ended_pieces (map window_tree_line w.lines) in
-      let PN = flat_map ended_pieces (node_lines 0 n.lines) in
-      let PS = flat_map ended_pieces (state_lines 0 p.states) in
-      let PE = ended_pieces end_line in
-      let head : Run PH [] H = joined (a_word (codes "tslprogram 1")) (a_word (codes "\n")) in
-      let last : Run PE ((((((H ++ A) ++ B) ++ C) ++ W) ++ N) ++ S) E = joined (a_word (codes "end")) (a_word (codes "\n")) in
-      subst (λ ps. Run ps [] (((((((H ++ A) ++ B) ++ C) ++ W) ++ N) ++ S) ++ E)) (eight_apart PH PA PB PC PW PN PS PE
-      ∙ sym (pieces_are listing))
-      (joined (joined (joined (joined (joined (joined (joined head a.runs) b.runs) c.runs) w.runs) n.runs)
-      (states_run 0 p.states (((((H ++ A) ++ B) ++ C) ++ W) ++ N))) last)
+  windows_count : length w.lines ≡ length p.windows
+  windows_count =
+      sym (length-all_there (map (numbered_window names text) w.lines) p.windows w.numbered_are
+      ∙ length-map w.lines (numbered_window names text))
+
+  nodes_count : length n.lines ≡ length p.nodes
+  nodes_count =
+      sym (length-all_there (map (numbered_node names text) n.lines) p.nodes n.numbered_are ∙ length-map n.lines (numbered_node names text))
+
+  texts_are : (ats : List Name) (ids : List ℕ) → all_there (map (numbered names text) ats) ≡ Some ids →
+      map (name_bytes text) ats ≡ map (name_text names) ids
+  texts_are = numbered_texts names text
+
+  controlled_are : map (name_text names) (p.cells ++ p.outputs) ≡ controlled_of text listing
+  controlled_are = sym (map_both (name_bytes text) (name_text names) b.lines c.lines p.cells p.outputs
+      (texts_are b.lines p.cells b.numbered_are) (texts_are c.lines p.outputs c.numbered_are))
 
   starts_below : (i m : ℕ) → slice_get p.states i ≡ Some m → m < length p.nodes
   starts_below i m is = h.is_program.states_fit.1 i m is
@@ -594,25 +372,20 @@ module _ (text : List ℕ) (names : List NameEntry) (distinct : AreDistinct name
 
   held : AllByRecursion (HeldUse names readable) (uses_of text listing)
   held =
-      each_joined (HeldUse names readable) (declared_uses text first_declaration (declared listing)
-      ++ windows_uses text (first_window listing) w.lines)
+      let joined = each_joined (HeldUse names readable) in
+      let declared_held = each_joined (IsKept names distinct readable text (λ at. true) (declared_use names distinct readable text)) in
+      joined (declared_uses text first_declaration (declared listing) ++ windows_uses text (first_window listing) w.lines)
       (nodes_uses text (first_node listing) n.lines)
-      (each_joined (HeldUse names readable) (declared_uses text first_declaration (declared listing)) (windows_uses text
-      (first_window listing) w.lines)
-      (subst (AllByRecursion (HeldUse names readable)) (sym (declared_append text first_declaration (a.ats ++ b.ats) c.ats))
-      (each_joined (HeldUse names readable) (declared_uses text first_declaration (a.ats ++ b.ats))
-      (declared_uses text (first_declaration + length (a.ats ++ b.ats)) c.ats)
-      (subst (AllByRecursion (HeldUse names readable)) (sym (declared_append text first_declaration a.ats b.ats))
-      (each_joined (HeldUse names readable) (declared_uses text first_declaration a.ats) (declared_uses text
-      (first_declaration + length a.ats) b.ats)
-      (a.held first_declaration) (b.held (first_declaration + length a.ats))))
-      (c.held (first_declaration + length (a.ats ++ b.ats)))))
-      (w.held (first_window listing)))
+      (joined (declared_uses text first_declaration (declared listing)) (windows_uses text (first_window listing) w.lines)
+      (lines_held names distinct readable text (λ at. true) (declared_use names distinct readable text) first_declaration (declared listing)
+      (declared_held (a.lines ++ b.lines) c.lines (declared_held a.lines b.lines a.each b.each) c.each))
+      (lines_held names distinct readable text (window_line_within names distinct readable text) (window_uses text) (first_window listing)
+      w.lines w.each))
       (n.held (first_node listing))
 
   readable_are : readable_of text listing ≡ map (name_text names) readable
-  readable_are =
-      map-append (name_bytes text) a.ats b.ats ∙ (λ i. a.texts_are i ++ b.texts_are i) ∙ sym (map-append (name_text names) p.inputs p.cells)
+  readable_are = map_both (name_bytes text) (name_text names) a.lines b.lines p.inputs p.cells
+      (texts_are a.lines p.inputs a.numbered_are) (texts_are b.lines p.cells b.numbered_are)
 
   -- a signal that is read is declared
   known : (u : ProgramUse) → HeldUse names readable u → is_unknown (readable_of text listing) u ≡ false
@@ -634,21 +407,17 @@ module _ (text : List ℕ) (names : List NameEntry) (distinct : AreDistinct name
 
   no_line_fault : line_fault text listing ≡ None
   no_line_fault =
-      nothing_there (at_line ProgramError.Order (first_line breaks_order (first_node listing) n.lines)) _
-      (no_fault_line ProgramError.Order breaks_order (first_node listing) n.lines n.order)
-      (nothing_there (at_line ProgramError.Target (first_line (goes_nowhere (length p.states)) (first_node listing) n.lines)) _
-      (no_fault_line ProgramError.Target (goes_nowhere (length p.states)) (first_node listing) n.lines n.go_is)
-      (nothing_there (at_line ProgramError.Target (first_line (is_nowhere (length n.lines)) (first_state listing) p.states)) _
-      (no_fault_line ProgramError.Target (is_nowhere (length n.lines)) (first_state listing) p.states
-      (λ i m is. ap not (lt-ltb m (length n.lines) (subst (λ k. m < k) (sym n.count) (starts_below i m is)))))
-      (nothing_there (at_line ProgramError.Updates (first_line (breaks_updates text controlled_texts) (first_node listing) n.lines)) _
-      (no_fault_line ProgramError.Updates (breaks_updates text controlled_texts) (first_node listing) n.lines n.updates_are)
-      (nothing_there (at_line ProgramError.Window (first_line (breaks_window text (cell_texts text listing))
-      (first_window listing) w.lines)) []
-      (no_fault_line ProgramError.Window (breaks_window text (cell_texts text listing)) (first_window listing) w.lines
-      (λ i v is. windows_keep names distinct readable text p.cells cells_fit cells_once (map
-      (name_bytes text) b.ats) b.texts_are p.windows w.lines
-      w.are h.is_program.windows_fit i v is (0 + i))) refl))))
+      nothing_there _ _ (no_fault_line ProgramError.Order breaks_order (first_node listing) n.lines (λ i m is. (n.keep i m is).order))
+      (nothing_there _ _
+      (no_fault_line ProgramError.Target (goes_nowhere (length p.states)) (first_node listing) n.lines (λ i m is. (n.keep i m is).go))
+      (nothing_there _ _ (no_fault_line ProgramError.Target (is_nowhere (length n.lines)) (first_state listing) p.states
+      (λ i m is. ap not (lt-ltb m (length n.lines) (subst (λ k. m < k) (sym nodes_count) (starts_below i m is)))))
+      (nothing_there _ _ (no_fault_line ProgramError.Updates (breaks_updates text (controlled_of text listing)) (first_node listing) n.lines
+      (λ i m is. subst (λ ts. breaks_updates text ts (0 + i) m ≡ false) controlled_are (n.keep i m is).updates))
+      (nothing_there _ [] (no_fault_line ProgramError.Window (breaks_window text (cell_texts text listing)) (first_window listing) w.lines
+      (λ i v is. windows_keep names readable text b.lines p.cells b.numbered_are
+      (second_once p.inputs p.cells p.outputs h.is_program.signals_distinct) p.windows w.lines w.numbered_are h.is_writable.equalities h.is_program.windows_fit i v is
+      (0 + i))) refl))))
 
   no_use_fault : (given : List NameEntry) → GoOnFrom given names →
       use_fault (readable_of text listing) (names_after given (uses_of text listing)) (uses_of text listing) ≡ None
@@ -669,36 +438,41 @@ module _ (text : List ℕ) (names : List NameEntry) (distinct : AreDistinct name
 
   no_limit_fault : limit_fault listing ≡ None
   no_limit_fault =
-      nothing_there (over ProgramError.Windows most_windows (length w.lines)) _
-      (within_over ProgramError.Windows most_windows (length w.lines) (subst (λ k. k ≤ most_windows)
-      (sym w.count) h.is_writable.few_windows))
-      (nothing_there (over ProgramError.Nodes most_nodes (length n.lines)) _
-      (within_over ProgramError.Nodes most_nodes (length n.lines) (subst (λ k. k ≤ most_nodes) (sym n.count) h.is_writable.few_nodes))
-      (nothing_there (over ProgramError.States most_states (length p.states)) []
-      (within_over ProgramError.States most_states (length p.states) h.is_writable.few_states) refl))
+      nothing_there _ _ (within_over ProgramError.Windows most_windows (length w.lines)
+      (subst (λ k. k ≤ most_windows) (sym windows_count) h.is_writable.few_windows))
+      (nothing_there _ _ (within_over ProgramError.Nodes most_nodes (length n.lines)
+      (subst (λ k. k ≤ most_nodes) (sym nodes_count) h.is_writable.few_nodes))
+      (nothing_there _ [] (within_over ProgramError.States most_states (length p.states) h.is_writable.few_states) refl))
 
   pub listing_of_program : ListingOfProgram text names p
   listing_of_program =
       let declared_are : map (name_bytes text) (declared listing) ≡ map (name_text names) ((p.inputs ++ p.cells) ++ p.outputs) =
-      map-append (name_bytes text) (a.ats ++ b.ats) c.ats ∙ (λ i. readable_are i ++ c.texts_are i)
-      ∙ sym (map-append (name_text names) (p.inputs ++ p.cells) p.outputs) in
-      let stands = runs.stands [] in
+      map_both (name_bytes text) (name_text names) (a.lines ++ b.lines) c.lines (p.inputs ++ p.cells) p.outputs readable_are
+      (texts_are c.lines p.outputs c.numbered_are) in
+      let within = list_all_joined line_is_within in
       record {
         listing = listing;
-        end = length (((((((H ++ A) ++ B) ++ C) ++ W) ++ N) ++ S) ++ E);
+        end = length (program_text names p);
         stands = subst (λ bytes. Stand (flat_map ended_pieces (listing_lines listing)) (record { at = 0; bytes = bytes })
-            (record { at = length (((((((H ++ A) ++ B) ++ C) ++ W) ++ N) ++ S) ++ E); bytes = [] }))
-            (append-nil (program_text names p) ∙ sym h.text) stands;
-        within = within_are listing a.within b.within c.within w.within n.within
-            (states_within 0 p.states (omega (arith, h.is_writable.few_states))
-            starts_small);
+            (record { at = length (program_text names p); bytes = [] })) (append-nil (program_text names p) ∙ sym h.text)
+            (found.1.stands []);
+        within = within (map input a.lines) _ (declared_within input (λ n. refl) a.lines)
+            (within (map cell b.lines) _ (declared_within cell (λ n. refl) b.lines)
+            (within (map output c.lines) _ (declared_within output (λ n. refl) c.lines)
+            (within (map window_tree_line w.lines) _ (list_all-map line_is_within window_tree_line w.lines
+            ∙ all_lines_within names distinct readable text (window_line_within names distinct readable text)
+            (window_uses text) w.lines w.each)
+            (within (node_lines 0 n.lines) _ n.within
+            (within (state_lines 0 p.states) (end_line ∷ []) (states_within 0 p.states (omega
+            (arith, h.is_writable.few_states)) starts_small)
+            refl)))));
         once = declared_apart names distinct text (declared listing) ((p.inputs ++ p.cells) ++ p.outputs) declared_are
             (list_all_joined (signal_fits names) (p.inputs ++ p.cells) p.outputs (list_all_joined
             (signal_fits names) p.inputs p.cells inputs_fit cells_fit) outputs_fit)
             h.is_program.signals_distinct;
         has_node = (let first = slice_get_some p.states 0 h.is_program.states_fit.0 in
             let below = starts_below 0 first.0 first.1 in
-            omega (arith, below, n.count));
+            omega (arith, below, nodes_count));
         has_state = h.is_program.states_fit.0;
         numbers = record {
           inputs = a.numbered_are;

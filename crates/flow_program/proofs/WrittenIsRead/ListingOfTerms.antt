@@ -1,5 +1,5 @@
 -- Terms and tests of a program stand in the text that spells them, and each name that they use is one of the program's names.
-use Rattle.std.proofs.Common.{◌≡◌, ℕ, ◌+◌, ◌==◌, Bool, true, false, ◌&&◌, ◌||◌, cond, List, [], ◌++◌, refl, ap, sym, subst, ◌∙◌}
+use Rattle.std.proofs.Common.{◌≡◌, ℕ, ◌+◌, ◌==◌, Bool, true, false, ◌&&◌, ◌||◌, cond, List, [], ◌∷◌, ◌++◌, refl, ap, sym, subst, ◌∙◌}
 use Rattle.std.specs.Prelude.{Option, Some, None, option_map, option_and_then, max, codes, slice_get, IsTrue}
 use Rattle.std.specs.List.{AllByRecursion}
 use Rattle.std.specs.Option.{option_map_or}
@@ -22,15 +22,15 @@ use Rattle.tsl_terms.proofs.FirstUses.{first_some, not_found}
 use Rattle.term_text.specs.TermText.{name_text, argument_text, applied_text, term_text, arguments_text, application_text, question_text}
 use Rattle.term_text.specs.TermText.{probe_text}
 use Rattle.sequence.proofs.Options.{some_passes}
-use Rattle.program_listing.specs.LineText.{argument_pieces, applied_pieces, surface_pieces, surfaces_pieces}
+use Rattle.program_listing.specs.declared.listing.Name.{Name as Place}
+use Rattle.program_listing.specs.LineText.{Piece, word, named, argument_pieces, applied_pieces, surface_pieces, surfaces_pieces}
 use Rattle.program_listing.specs.Listing.{SurfaceTermTree, bare, applied, SurfaceTermTrees, no_surfaces, more_surfaces, count_of_surfaces, name_bytes}
 use Rattle.program_listing.specs.Listing.{bracketed_surface, surface_brackets, surfaces_brackets}
-use Rattle.flow_program.specs.Uses.{ProgramUse, read_use, tested_use, applied_use, signal_use, term_uses, terms_uses, test_uses}
+use Rattle.flow_program.specs.Uses.{ProgramUse, read_use, tested_use, applied_use, term_uses, terms_uses, test_uses}
 use Rattle.flow_program.specs.Uses.{question_entry}
 use Rattle.flow_program.specs.internal.Numbering.{numbered, numbered_term, numbered_terms, numbered_test, probe_with}
 use Rattle.flow_program.proofs.ResolvedLines.{place_at}
-use Rattle.flow_program.proofs.WrittenIsRead.Runs.{Run, name_at, no_run, a_word, a_name, joined, Occurs, occurs_left, occurs_right}
-use Rattle.flow_program.proofs.WrittenIsRead.Runs.{bytes_at}
+use Rattle.flow_program.proofs.WrittenIsRead.Runs.{Part, nothing, exactly, beside, made, name_at, a_word, a_name, bytes_at}
 
 left_holds : (a : Bool) → (a || false) ≡ true → a ≡ true
 left_holds true h = refl
@@ -101,253 +101,210 @@ module _ (names : List NameEntry) where
         ap Some (distinct i id other.0 n other.1 there other.2)
 
   module _ (distinct : AreDistinct names) (readable : List ℕ) (text : List ℕ) where
-    -- a name that stands there has its number
-    pub number_at : (id : ℕ) (kind : NameKind) (arity : ℕ) (front : List ℕ) → is_name names id kind arity ≡ true →
-        Occurs text front (name_text names id) → numbered names text (name_at front (name_text names id)) ≡ Some id
-    number_at id kind arity front fits occurs =
+    -- a name that stands in the text as that of a number
+    pub record NameAt (id : ℕ) : Type 0 where
+      pub at : Place
+      pub bytes_are : name_bytes text at ≡ name_text names id
+
+    abbrev pub named_at : {id : ℕ} → NameAt id → List Piece
+    named_at n = named n.at ∷ []
+
+    pub name_part : (id : ℕ) → is_usable_at names id ≡ true → Part text (named_at {id = id}) (name_text names id)
+    name_part id usable = record {
+      runs = λ front occurs. (
+        record { at = name_at front (name_text names id); bytes_are = bytes_at text front (name_text names id) occurs },
+        a_name (name_text names id) (usable_text id usable),
+      );
+    }
+
+    -- it has its number
+    pub number_at : (id : ℕ) (kind : NameKind) (arity : ℕ) → is_name names id kind arity ≡ true → (n : NameAt id) →
+        numbered names text n.at ≡ Some id
+    number_at id kind arity fits n =
         let e = entry_of id kind arity fits in
-        ap (number_of names) (bytes_at text front (name_text names id) occurs ∙ e.text) ∙ its_number distinct id e.entry e.there
+        ap (number_of names) (n.bytes_are ∙ e.text) ∙ its_number distinct id e.entry e.there
 
     -- a use of it is held
-    held_as : (u : ProgramUse) (id : ℕ) (kind : NameKind) (arity : ℕ) (front : List ℕ) →
-        u.name ≡ record { text = name_bytes text (name_at front (name_text names id)); kind = kind; arity = arity } →
-        is_name names id kind arity ≡ true → is_usable_at names id ≡ true → Occurs text front (name_text names id) →
-        (IsTrue u.is_tested → (q : ℕ) × (slice_get names q ≡ Some question_entry)) → (IsTrue u.is_read → is_among readable id ≡ true) →
-        HeldUse readable u
-    held_as u id kind arity front is fits usable occurs asked read =
-        let bytes = bytes_at text front (name_text names id) occurs in
-        record {
-          id = id;
-          there = entry_is id kind arity (name_bytes text (name_at front (name_text names id))) (entry_of id kind arity fits) bytes
-              ∙ ap Some (sym is);
-          usable = ap (λ n. is_usable n.text) is ∙ ap is_usable bytes ∙ usable_text id usable;
-          asked = asked;
-          read = read;
-        }
+    held_as : (u : ProgramUse) (id : ℕ) (kind : NameKind) (arity : ℕ) (n : NameAt id) →
+        u.name ≡ record { text = name_bytes text n.at; kind = kind; arity = arity } → is_name names id kind arity ≡ true →
+        is_usable_at names id ≡ true → (IsTrue u.is_tested → (q : ℕ) × (slice_get names q ≡ Some question_entry)) →
+        (IsTrue u.is_read → is_among readable id ≡ true) → HeldUse readable u
+    held_as u id kind arity n is fits usable asked read = record {
+      id = id;
+      there = entry_is id kind arity (name_bytes text n.at) (entry_of id kind arity fits) n.bytes_are ∙ ap Some (sym is);
+      usable = ap (λ m. is_usable m.text) is ∙ ap is_usable n.bytes_are ∙ usable_text id usable;
+      asked = asked;
+      read = read;
+    }
 
-    pub signal_held : (line : ℕ) (s : ℕ) (front : List ℕ) → is_name names s Signal 0 ≡ true → is_usable_at names s ≡ true →
-        Occurs text front (name_text names s) → HeldUse readable (signal_use text line (name_at front (name_text names s)))
-    signal_held line s front fits usable occurs =
-        held_as (signal_use text line (name_at front (name_text names s))) s Signal 0 front refl fits usable occurs (λ h. absurd (cc))
-        (λ h. absurd (cc))
-
-    applied_held : (line : ℕ) (kind : NameKind) (f arity : ℕ) (front : List ℕ) → is_name names f kind arity ≡ true →
-        is_usable_at names f ≡ true → Occurs text front (name_text names f) →
-        HeldUse readable (applied_use text line kind (name_at front (name_text names f)) arity)
-    applied_held line kind f arity front fits usable occurs =
-        held_as (applied_use text line kind (name_at front (name_text names f)) arity) f kind arity front refl fits usable occurs
-        (λ h. absurd (cc)) (λ h. absurd (cc))
+    pub applied_held : (line : ℕ) (kind : NameKind) (id arity : ℕ) → is_name names id kind arity ≡ true → is_usable_at names id ≡ true →
+        (n : NameAt id) → HeldUse readable (applied_use text line kind n.at arity)
+    applied_held line kind id arity fits usable n =
+        held_as (applied_use text line kind n.at arity) id kind arity n refl fits usable (λ h. absurd (cc)) (λ h. absurd (cc))
 
     -- ---- terms
 
-    abbrev SameShape : TermTrees → SurfaceTermTrees → Type 0
-    SameShape no_terms no_surfaces = Unit {0}
-    SameShape no_terms (more_surfaces p ps) = ⊥
-    SameShape (more_terms t ts) no_surfaces = ⊥
-    SameShape (more_terms t ts) (more_surfaces p ps) = Unit {0}
+    -- the pieces of an argument, and what follows a name
+    abbrev argument_of : TermTree → List Piece → List Piece
+    argument_of (apply f (more_terms t ts)) pieces = word (codes "(") ∷ (pieces ++ word (codes ")") ∷ [])
+    argument_of (apply f no_terms) pieces = pieces
+    argument_of (signal s) pieces = pieces
+
+    abbrev applied_of : TermTrees → List Piece → List Piece
+    applied_of no_terms pieces = word (codes "()") ∷ []
+    applied_of (more_terms t ts) pieces = pieces
 
     -- a surface term of the form of a term
-    abbrev SameForm : TermTree → SurfaceTermTree → Type 0
-    SameForm (signal s) (bare at) = Unit {0}
-    SameForm (signal s) (applied at ps) = ⊥
-    SameForm (apply f ts) (bare at) = ⊥
-    SameForm (apply f ts) (applied at ps) = SameShape ts ps
-
-    pub record ListingOfTerm (t : TermTree) (front : List ℕ) : Type 0 where
+    pub record ListingOfTerm (t : TermTree) : Type 0 where
       pub surface : SurfaceTermTree
-      pub form : SameForm t surface
       pub numbered_is : numbered_term names text surface ≡ Some t
-      pub runs : Run (surface_pieces surface) front (term_text names t)
       pub deep : surface_brackets surface ≡ brackets t
+      pub shape : (d : ℕ) → bracketed_surface surface d ≡ bracketed t d
+      pub argument : (pieces : List Piece) → argument_of t pieces ≡ argument_pieces surface pieces
       pub held : (line : ℕ) → AllByRecursion (HeldUse readable) (term_uses text line surface)
 
-    record ListingOfTerms (ts : TermTrees) (front : List ℕ) : Type 0 where
+    record ListingOfTerms (ts : TermTrees) : Type 0 where
       pub surfaces : SurfaceTermTrees
       pub numbered_are : numbered_terms names text surfaces ≡ Some ts
-      pub runs : Run (surfaces_pieces surfaces) front (arguments_text names ts)
       pub deep : surfaces_brackets surfaces ≡ brackets_of_arguments ts
       pub count : count_of_surfaces surfaces ≡ count_of_terms ts
-      pub shape : SameShape ts surfaces
+      pub shape : (f : ℕ) (at : Place) (d : ℕ) → bracketed_surface (applied at surfaces) d ≡ bracketed (apply f ts) d
+      pub argument : (f : ℕ) (at : Place) (pieces : List Piece) →
+          argument_of (apply f ts) pieces ≡ argument_pieces (applied at surfaces) pieces
+      pub follow : (pieces : List Piece) → applied_of ts pieces ≡ applied_pieces surfaces pieces
       pub held : (line : ℕ) → AllByRecursion (HeldUse readable) (terms_uses text line surfaces)
 
-    -- what follows a name
-    applied_runs : (ts : TermTrees) (front : List ℕ) (p : ListingOfTerms ts front) →
-        Run (applied_pieces p.surfaces (surfaces_pieces p.surfaces)) front (applied_text ts (arguments_text names ts))
-    applied_runs no_terms front p = by p.surfaces p.shape where
-      by : (ps : SurfaceTermTrees) → SameShape no_terms ps → Run (applied_pieces ps (surfaces_pieces ps)) front (codes "()")
-      by no_surfaces h = a_word (codes "()")
-      by (more_surfaces q qs) h = absurd h
-    applied_runs (more_terms t ts) front p = by p.surfaces p.shape p.runs where
-      by : (ps : SurfaceTermTrees) → SameShape (more_terms t ts) ps → Run (surfaces_pieces ps) front (arguments_text names (more_terms t ts)) →
-          Run (applied_pieces ps (surfaces_pieces ps)) front (arguments_text names (more_terms t ts))
-      by no_surfaces h r = absurd h
-      by (more_surfaces q qs) h r = r
+    abbrev pub surface_at : {t : TermTree} → ListingOfTerm t → List Piece
+    surface_at l = surface_pieces l.surface
 
-    application_runs : (f : ℕ) (ts : TermTrees) (front : List ℕ) → is_usable_at names f ≡ true →
-        (p : ListingOfTerms ts (front ++ name_text names f)) →
-        Run (surface_pieces (applied (name_at front (name_text names f)) p.surfaces)) front
-        (name_text names f ++ applied_text ts (arguments_text names ts))
-    application_runs f ts front usable p =
-        joined (a_name (name_text names f) (usable_text f usable)) (applied_runs ts (front ++ name_text names f) p)
+    abbrev surfaces_at : {ts : TermTrees} → ListingOfTerms ts → List Piece
+    surfaces_at l = surfaces_pieces l.surfaces
 
-    -- the arguments occur where what follows the name does
-    arguments_occur : (ts : TermTrees) (front : List ℕ) → Occurs text front (applied_text ts (arguments_text names ts)) →
-        Occurs text front (arguments_text names ts)
-    arguments_occur no_terms front h = (codes "()" ++ h.0, h.1)
-    arguments_occur (more_terms t ts) front h = h
+    -- a name and its arguments
+    abbrev application_at : {f : ℕ} {ts : TermTrees} → NameAt f × ListingOfTerms ts → List Piece
+    application_at x = surface_pieces (applied x.0.at x.1.surfaces)
 
-    -- an argument that has arguments stands after a bracket
-    abbrev start_of : TermTree → List ℕ → List ℕ
-    start_of (signal s) front = front
-    start_of (apply f no_terms) front = front
-    start_of (apply f (more_terms t ts)) front = front ++ codes "("
+    application_part : (f : ℕ) (ts : TermTrees) → is_usable_at names f ≡ true → Part text (surfaces_at {ts = ts})
+        (arguments_text names ts) →
+        Part text (application_at {f = f} {ts = ts}) (name_text names f ++ applied_text ts (arguments_text names ts))
+    application_part f ts usable arguments =
+        made (beside (name_part f usable) (behind ts arguments)) refl application_at (λ x. x)
+        (λ x. ap (λ ps. named x.0.at ∷ ps) (x.1.follow (surfaces_at x.1)))
+      where
+        behind : (us : TermTrees) → Part text (surfaces_at {ts = us}) (arguments_text names us) →
+            Part text (λ (l : ListingOfTerms us). applied_of us (surfaces_at l)) (applied_text us (arguments_text names us))
+        behind no_terms arguments = record {
+          runs = λ front occurs. ((arguments.runs front (codes "()" ++ occurs.0, occurs.1)).0, a_word (codes "()"));
+        }
+        behind (more_terms u us) arguments = arguments
 
-    argument_occurs : (t : TermTree) (front : List ℕ) → Occurs text front (argument_text t (term_text names t)) →
-        Occurs text (start_of t front) (term_text names t)
-    argument_occurs (signal s) front h = h
-    argument_occurs (apply f no_terms) front h = h
-    argument_occurs (apply f (more_terms t ts)) front h =
-        let bytes = term_text names (apply f (more_terms t ts)) in
-        occurs_right text front (codes "(") bytes (occurs_left text front (codes "(" ++ bytes) (codes ")") h)
-
-    argument_runs : (t : TermTree) (p : SurfaceTermTree) (front : List ℕ) → SameForm t p →
-        Run (surface_pieces p) (start_of t front) (term_text names t) →
-        Run (argument_pieces p (surface_pieces p)) front (argument_text t (term_text names t))
-    argument_runs (signal s) (bare at) front form r = r
-    argument_runs (signal s) (applied at ps) front form r = absurd form
-    argument_runs (apply f ts) (bare at) front form r = absurd form
-    argument_runs (apply f no_terms) (applied at no_surfaces) front form r = r
-    argument_runs (apply f no_terms) (applied at (more_surfaces p ps)) front form r = absurd form
-    argument_runs (apply f (more_terms t ts)) (applied at no_surfaces) front form r = absurd form
-    argument_runs (apply f (more_terms t ts)) (applied at (more_surfaces p ps)) front form r =
-        joined (joined (a_word (codes "(")) r) (a_word (codes ")"))
-
-    same_bracketed : (t : TermTree) (p : SurfaceTermTree) (d : ℕ) → SameForm t p → bracketed_surface p d ≡ bracketed t d
-    same_bracketed (signal s) (bare at) d form = refl
-    same_bracketed (signal s) (applied at ps) d form = absurd form
-    same_bracketed (apply f ts) (bare at) d form = absurd form
-    same_bracketed (apply f no_terms) (applied at no_surfaces) d form = refl
-    same_bracketed (apply f no_terms) (applied at (more_surfaces p ps)) d form = absurd form
-    same_bracketed (apply f (more_terms t ts)) (applied at no_surfaces) d form = absurd form
-    same_bracketed (apply f (more_terms t ts)) (applied at (more_surfaces p ps)) d form = refl
+    argument_part : (t : TermTree) → Part text (surface_at {t = t}) (term_text names t) →
+        Part text (λ (l : ListingOfTerm t). argument_pieces l.surface (surface_at l)) (argument_text t (term_text names t))
+    argument_part t term = made (around t term) refl (λ l. argument_pieces l.surface (surface_at l)) (λ l. l)
+        (λ l. l.argument (surface_at l))
+      where
+        around : (u : TermTree) → Part text (surface_at {t = u}) (term_text names u) →
+            Part text (λ (l : ListingOfTerm u). argument_of u (surface_at l)) (argument_text u (term_text names u))
+        around (signal s) p = p
+        around (apply f no_terms) p = p
+        around (apply f (more_terms v vs)) p =
+            made (beside (beside (exactly (codes "(")) p) (exactly (codes ")"))) refl
+            (λ l. argument_of (apply f (more_terms v vs)) (surface_at l)) (λ x. x.0.1) (λ x. refl)
 
     mutual
-      pub listing_of_term : (t : TermTree) (front : List ℕ) → term_fits names t ≡ true → reads_only readable t ≡ true →
-          Occurs text front (term_text names t) → ListingOfTerm t front
-      listing_of_term (signal s) front fits reads occurs =
+      pub term_part : (t : TermTree) → term_fits names t ≡ true → reads_only readable t ≡ true →
+          Part text (surface_at {t = t}) (term_text names t)
+      term_part (signal s) fits reads =
           let parts = and_parts (is_name names s Signal 0) (is_usable_at names s) fits in
-          record {
-            surface = bare (name_at front (name_text names s));
-            form = tt;
-            numbered_is = ap (option_map signal) (number_at s Signal 0 front parts.0 occurs);
-            runs = a_name (name_text names s) (usable_text s parts.1);
+          made (name_part s parts.1) refl surface_at (λ n. record {
+            surface = bare n.at;
+            numbered_is = ap (option_map signal) (number_at s Signal 0 parts.0 n);
             deep = refl;
-            held = λ line. (
-              held_as (read_use text line (name_at front (name_text names s))) s Signal 0 front refl parts.0 parts.1 occurs
-                  (λ h. absurd (cc)) (λ h. reads),
-              tt,
-            );
-          }
-      listing_of_term (apply f ts) front fits reads occurs =
+            shape = λ d. refl;
+            argument = λ pieces. refl;
+            held = λ line. (held_as (read_use text line n.at) s Signal 0 n refl parts.0 parts.1 (λ h. absurd (cc)) (λ h. reads), tt);
+          }) (λ n. refl)
+      term_part (apply f ts) fits reads =
           let parts = and_parts (is_name names f Function (count_of_terms ts) && is_usable_at names f) (terms_fit names ts) fits in
           let name = and_parts (is_name names f Function (count_of_terms ts)) (is_usable_at names f) parts.0 in
-          let first = occurs_left text front (name_text names f) (applied_text ts (arguments_text names ts)) occurs in
-          let rest = occurs_right text front (name_text names f) (applied_text ts (arguments_text names ts)) occurs in
-          let p : ListingOfTerms ts (front ++ name_text names f) =
-          listing_of_terms ts (front ++ name_text names f) parts.1 reads (arguments_occur ts (front ++ name_text names f) rest) in
-          record {
-            surface = applied (name_at front (name_text names f)) p.surfaces;
-            form = p.shape;
-            numbered_is = ap (option_and_then (λ n. option_map (apply n) (numbered_terms names text p.surfaces)))
-                (number_at f Function (count_of_terms ts) front name.0 first) ∙ ap (option_map (apply f)) p.numbered_are;
-            runs = application_runs f ts front name.1 p;
-            deep = p.deep;
+          made (application_part f ts name.1 (terms_part ts parts.1 reads)) refl surface_at (λ x. record {
+            surface = applied x.0.at x.1.surfaces;
+            numbered_is = ap (option_and_then (λ n. option_map (apply n) (numbered_terms names text x.1.surfaces)))
+                (number_at f Function (count_of_terms ts) name.0 x.0) ∙ ap (option_map (apply f)) x.1.numbered_are;
+            deep = x.1.deep;
+            shape = x.1.shape f x.0.at;
+            argument = x.1.argument f x.0.at;
             held = λ line. (
-              subst (λ n. HeldUse readable (applied_use text line Function (name_at front (name_text names f)) n)) (sym p.count)
-                  (applied_held line Function f (count_of_terms ts) front name.0 name.1 first),
-              p.held line,
+              subst (λ n. HeldUse readable (applied_use text line Function x.0.at n)) (sym x.1.count)
+                  (applied_held line Function f (count_of_terms ts) name.0 name.1 x.0),
+              x.1.held line,
             );
-          }
+          }) (λ x. refl)
 
-      listing_of_terms : (ts : TermTrees) (front : List ℕ) → terms_fit names ts ≡ true → read_only readable ts ≡ true →
-          Occurs text front (arguments_text names ts) → ListingOfTerms ts front
-      listing_of_terms no_terms front fits reads occurs =
-          record {
-            surfaces = no_surfaces;
-            numbered_are = refl;
-            runs = no_run;
-            deep = refl;
-            count = refl;
-            shape = tt;
-            held = λ line. tt;
-          }
-      listing_of_terms (more_terms t ts) front fits reads occurs =
-          let argument = argument_text t (term_text names t) in
+      terms_part : (ts : TermTrees) → terms_fit names ts ≡ true → read_only readable ts ≡ true →
+          Part text (surfaces_at {ts = ts}) (arguments_text names ts)
+      terms_part no_terms fits reads = made nothing refl surfaces_at (λ u. record {
+        surfaces = no_surfaces;
+        numbered_are = refl;
+        deep = refl;
+        count = refl;
+        shape = λ f at d. refl;
+        argument = λ f at pieces. refl;
+        follow = λ pieces. refl;
+        held = λ line. tt;
+      }) (λ u. refl)
+      terms_part (more_terms t ts) fits reads =
           let fit = and_parts (term_fits names t) (terms_fit names ts) fits in
           let read = and_parts (reads_only readable t) (read_only readable ts) reads in
-          let first = occurs_left text front (codes " " ++ argument) (arguments_text names ts) occurs in
-          let rest = occurs_right text front (codes " " ++ argument) (arguments_text names ts) occurs in
-          let start = start_of t (front ++ codes " ") in
-          let head : ListingOfTerm t start =
-          listing_of_term t start fit.0 read.0 (argument_occurs t (front ++ codes " ") (occurs_right text front (codes " ") argument first))
-          in
-          let tail : ListingOfTerms ts (front ++ (codes " " ++ argument)) = listing_of_terms ts (front ++ (codes " "
-          ++ argument)) fit.1 read.1 rest in
-          record {
-            surfaces = more_surfaces head.surface tail.surfaces;
-            numbered_are = ap (option_and_then (λ tree. option_map (more_terms tree) (numbered_terms names text tail.surfaces)))
-                head.numbered_is ∙ ap (option_map (more_terms t)) tail.numbered_are;
-            runs = joined (joined (a_word (codes " ")) (argument_runs t head.surface (front ++ codes " ") head.form head.runs)) tail.runs;
-            deep = λ i. max ((ap (bracketed_surface head.surface) head.deep
-                ∙ same_bracketed t head.surface (brackets t) head.form) i) (tail.deep i);
-            count = ap (λ n. 1 + n) tail.count;
-            shape = tt;
-            held = λ line. each_joined (HeldUse readable) (term_uses text line head.surface) (terms_uses text line tail.surfaces)
-                (head.held line)
-                (tail.held line);
-          }
+          made (beside (beside (exactly (codes " ")) (argument_part t (term_part t fit.0 read.0))) (terms_part ts fit.1 read.1)) refl
+          surfaces_at (λ x. record {
+            surfaces = more_surfaces x.0.1.surface x.1.surfaces;
+            numbered_are = ap (option_and_then (λ tree. option_map (more_terms tree) (numbered_terms names text x.1.surfaces)))
+                x.0.1.numbered_is ∙ ap (option_map (more_terms t)) x.1.numbered_are;
+            deep = λ i. max ((ap (bracketed_surface x.0.1.surface) x.0.1.deep ∙ x.0.1.shape (brackets t)) i) (x.1.deep i);
+            count = ap (λ n. 1 + n) x.1.count;
+            shape = λ f at d. refl;
+            argument = λ f at pieces. refl;
+            follow = λ pieces. refl;
+            held = λ line. each_joined (HeldUse readable) (term_uses text line x.0.1.surface) (terms_uses text line x.1.surfaces)
+                (x.0.1.held line) (x.1.held line);
+          }) (λ x. refl)
 
     -- ---- tests
 
-    pub record ListingOfTest (p : ProbeTree) (front : List ℕ) : Type 0 where
+    pub record ListingOfTest (p : ProbeTree) : Type 0 where
       pub surface : SurfaceTermTree
       pub numbered_is : numbered_test names text surface ≡ Some p
-      pub runs : Run (surface_pieces surface) front (probe_text names p)
       pub deep : surface_brackets surface ≡ brackets_of_arguments p.arguments
       pub held : (line : ℕ) → AllByRecursion (HeldUse readable) (test_uses text line surface)
 
+    abbrev pub test_at : {p : ProbeTree} → ListingOfTest p → List Piece
+    test_at l = surface_pieces l.surface
+
     -- a predicate with its arguments
-    listing_of_application : (q : ℕ) (ts : TermTrees) (front : List ℕ) → is_name names q Predicate (count_of_terms ts) ≡ true →
-        terms_fit names ts ≡ true → is_usable_at names q ≡ true → read_only readable ts ≡ true →
-        Occurs text front (name_text names q ++ applied_text ts (arguments_text names ts)) →
-        is_question names q ≡ false → ListingOfTest (record { predicate = q; arguments = ts }) front
-    listing_of_application q ts front fits fit usable reads occurs other =
-        let first = occurs_left text front (name_text names q) (applied_text ts (arguments_text names ts)) occurs in
-        let rest = occurs_right text front (name_text names q) (applied_text ts (arguments_text names ts)) occurs in
-        let p : ListingOfTerms ts (front ++ name_text names q) =
-        listing_of_terms ts (front ++ name_text names q) fit reads (arguments_occur ts (front ++ name_text names q) rest) in
-        let probe : ProbeTree = record { predicate = q; arguments = ts } in
-        record {
-          surface = applied (name_at front (name_text names q)) p.surfaces;
-          numbered_is = ap (option_and_then (λ n. option_map (probe_with n) (numbered_terms names text p.surfaces)))
-              (number_at q Predicate (count_of_terms ts) front fits first) ∙ ap (option_map (probe_with q)) p.numbered_are;
-          runs = subst (Run (surface_pieces (applied (name_at front (name_text names q)) p.surfaces)) front)
-              (sym (ap (λ b. cond b (question_text names probe ts) (application_text names probe)) other))
-              (application_runs q ts front usable p);
-          deep = p.deep;
+    application_test : (q : ℕ) (ts : TermTrees) → is_name names q Predicate (count_of_terms ts) ≡ true → terms_fit names ts ≡ true →
+        is_usable_at names q ≡ true → read_only readable ts ≡ true → is_question names q ≡ false →
+        Part text (test_at {p = probe_with q ts}) (probe_text names (probe_with q ts))
+    application_test q ts fits fit usable reads other =
+        let probe = probe_with q ts in
+        made (application_part q ts usable (terms_part ts fit reads))
+        (sym (ap (λ b. cond b (question_text names probe ts) (application_text names probe)) other)) test_at (λ x. record {
+          surface = applied x.0.at x.1.surfaces;
+          numbered_is = ap (option_and_then (λ n. option_map (probe_with n) (numbered_terms names text x.1.surfaces)))
+              (number_at q Predicate (count_of_terms ts) fits x.0) ∙ ap (option_map (probe_with q)) x.1.numbered_are;
+          deep = x.1.deep;
           held = λ line. (
-            subst (λ n. HeldUse readable (applied_use text line Predicate (name_at front (name_text names q)) n)) (sym p.count)
-                (applied_held line Predicate q (count_of_terms ts) front fits usable first),
-            p.held line,
+            subst (λ n. HeldUse readable (applied_use text line Predicate x.0.at n)) (sym x.1.count)
+                (applied_held line Predicate q (count_of_terms ts) fits usable x.0),
+            x.1.held line,
           );
-        }
+        }) (λ x. refl)
 
     -- the name of a Boolean signal
-    listing_of_bare : (q : ℕ) (ts : TermTrees) (front : List ℕ) → is_name names q Predicate (count_of_terms ts) ≡ true →
-        terms_fit names ts ≡ true → are_one_signal ts ≡ true → read_only readable ts ≡ true → is_question names q ≡ true →
-        Occurs text front (question_text names (record { predicate = q; arguments = ts }) ts) →
-        ListingOfTest (record { predicate = q; arguments = ts }) front
-    listing_of_bare q (more_terms (signal s) no_terms) front fits fit one reads asks occurs =
+    signal_test : (q : ℕ) (ts : TermTrees) → is_name names q Predicate (count_of_terms ts) ≡ true → terms_fit names ts ≡ true →
+        are_one_signal ts ≡ true → read_only readable ts ≡ true → is_question names q ≡ true →
+        Part text (test_at {p = probe_with q ts}) (probe_text names (probe_with q ts))
+    signal_test q (more_terms (signal s) no_terms) fits fit one reads asks =
         let parts = and_parts (term_fits names (signal s)) true fit in
         let name = and_parts (is_name names s Signal 0) (is_usable_at names s) parts.0 in
         let read = and_parts (is_among readable s) true reads in
@@ -355,37 +312,34 @@ module _ (names : List NameEntry) where
         let e : Entry q Predicate 1 = entry_of q Predicate 1 fits in
         let text_is : name_text names q ≡ question =
         ap (λ o. option_map_or (λ n. n.text) o []) found.1 ∙ same_bytes found.0.text question found.2 in
-        let args = more_terms (signal s) no_terms in
-        let probe : ProbeTree = record { predicate = q; arguments = args } in
-        record {
-          surface = bare (name_at front (name_text names s));
+        let arguments = more_terms (signal s) no_terms in
+        made (name_part s name.1)
+        (sym (ap (λ b. cond b (name_text names s) (application_text names (probe_with q arguments))) asks)) test_at (λ n. record {
+          surface = bare n.at;
           numbered_is =
-              ap (option_and_then (λ k. option_map (λ n. probe_with n (more_terms (signal k) no_terms)) (number_of names question)))
-              (number_at s Signal 0 front name.0 occurs)
-              ∙ ap (option_map (λ n. probe_with n args)) (ap (number_of names) (sym text_is ∙ e.text) ∙ its_number distinct q e.entry
-              e.there);
-          runs = subst (Run (surface_pieces (bare (name_at front (name_text names s)))) front)
-              (sym (ap (λ b. cond b (name_text names s) (application_text names probe)) asks))
-              (a_name (name_text names s) (usable_text s name.1));
+              ap (option_and_then (λ k. option_map (λ m. probe_with m (more_terms (signal k) no_terms)) (number_of names question)))
+              (number_at s Signal 0 name.0 n)
+              ∙ ap (option_map (λ m. probe_with m arguments)) (ap (number_of names) (sym text_is ∙ e.text)
+              ∙ its_number distinct q e.entry e.there);
           deep = refl;
           held = λ line. (
-            held_as (tested_use text line (name_at front (name_text names s))) s Signal 0 front refl name.0 name.1 occurs
+            held_as (tested_use text line n.at) s Signal 0 n refl name.0 name.1
                 (λ h. (q, entry_is q Predicate 1 question e (sym text_is))) (λ h. read.0),
             tt,
           );
-        }
-    listing_of_bare q no_terms front fits fit one reads asks occurs = absurd (cc)
-    listing_of_bare q (more_terms (apply f as') ts) front fits fit one reads asks occurs = absurd (cc)
-    listing_of_bare q (more_terms (signal s) (more_terms t ts)) front fits fit one reads asks occurs = absurd (cc)
+        }) (λ n. refl)
+    signal_test q no_terms fits fit one reads asks = absurd (cc)
+    signal_test q (more_terms (apply f as') ts) fits fit one reads asks = absurd (cc)
+    signal_test q (more_terms (signal s) (more_terms t ts)) fits fit one reads asks = absurd (cc)
 
     question_unusable : (q : ℕ) → is_question names q ≡ true → is_usable_at names q ≡ false
     question_unusable q asks =
         let found = some_passes (slice_get names q) (λ n. bytes_eq n.text question) asks in
         ap (λ o. option_map_or (λ n. is_usable n.text) o false) found.1 ∙ ap is_usable (same_bytes found.0.text question found.2)
 
-    pub listing_of_test : (p : ProbeTree) (front : List ℕ) → probe_fits names p ≡ true → read_only readable p.arguments ≡ true →
-        Occurs text front (probe_text names p) → ListingOfTest p front
-    listing_of_test p front fits reads occurs =
+    pub test_part : (p : ProbeTree) → probe_fits names p ≡ true → read_only readable p.arguments ≡ true →
+        Part text (test_at {p = p}) (probe_text names p)
+    test_part p fits reads =
         let q = p.predicate in
         let ts = p.arguments in
         let parts = and_parts (is_name names q Predicate (count_of_terms ts) && terms_fit names ts)
@@ -395,15 +349,14 @@ module _ (names : List NameEntry) where
       where
         by : (b : Bool) → is_question names p.predicate ≡ b → is_name names p.predicate Predicate (count_of_terms p.arguments) ≡ true →
             terms_fit names p.arguments ≡ true →
-            (is_usable_at names p.predicate || (is_question names p.predicate && are_one_signal p.arguments)) ≡ true → ListingOfTest p front
+            (is_usable_at names p.predicate || (is_question names p.predicate && are_one_signal p.arguments)) ≡ true →
+            Part text (test_at {p = p}) (probe_text names p)
         by true e fit rest one =
             let either : (is_question names p.predicate && are_one_signal p.arguments) ≡ true =
             sym (ap (λ b. b || (is_question names p.predicate && are_one_signal p.arguments)) (question_unusable p.predicate e)) ∙ one in
-            listing_of_bare p.predicate p.arguments front fit rest (and_parts (is_question names p.predicate)
+            signal_test p.predicate p.arguments fit rest (and_parts (is_question names p.predicate)
             (are_one_signal p.arguments) either).1 reads e
-            (subst (Occurs text front) (ap (λ b. cond b (question_text names p p.arguments) (application_text names p)) e) occurs)
         by false e fit rest one =
-            listing_of_application p.predicate p.arguments front fit rest
+            application_test p.predicate p.arguments fit rest
             (left_holds (is_usable_at names p.predicate) (sym (ap (λ b. is_usable_at names p.predicate ||
-            (b && are_one_signal p.arguments)) e) ∙ one))
-            reads (subst (Occurs text front) (ap (λ b. cond b (question_text names p p.arguments) (application_text names p)) e) occurs) e
+            (b && are_one_signal p.arguments)) e) ∙ one)) reads e

@@ -1,6 +1,10 @@
 -- Pieces that spell bytes, wherever they stand.
 use Rattle.std.proofs.Common.{◌≡◌, ℕ, ◌-◌, true, List, [], ◌∷◌, ◌++◌, length, take, drop, refl, sym, ap, subst, ◌∙◌, arith}
-use Rattle.std.proofs.Common.{append_assoc, length-append}
+use Rattle.std.proofs.Common.{append_assoc, length-append, map}
+use Rattle.std.specs.Prelude.{Option, Some, flat_map}
+use Rattle.std.specs.List.{AllByRecursion}
+use Rattle.sequence.specs.Options.{all_there}
+use Rattle.sequence.proofs.Gathered.{all_there_next}
 use Rattle.std.proofs.lemmas.List.{append-nil}
 use Rattle.std.proofs.Math.Seq.{take-append_seam, drop-append_seam}
 use Rattle.tsl_text.specs.Names.{is_usable}
@@ -68,3 +72,61 @@ bytes_at text front name h =
     ∙ ap (λ bytes. take (length name) (drop (length front) bytes)) h.1
     ∙ ap (take (length name)) (drop-append_seam front (name ++ h.0))
     ∙ take-append_seam name h.0
+
+-- A part of a text: wherever these bytes stand in the text, a value is made whose pieces spell them.
+pub record Part (text : List ℕ) {X : Type 0} (pieces : X → List Piece) (bytes : List ℕ) : Type 0 where
+  pub runs : (front : List ℕ) → Occurs text front bytes → (x : X) × Run (pieces x) front bytes
+
+pub nothing : {text : List ℕ} → Part text (λ (u : Unit {0}). []) []
+nothing = record { runs = λ front occurs. (tt, no_run) }
+
+pub exactly : {text : List ℕ} (w : List ℕ) → Part text (λ (u : Unit {0}). word w ∷ []) w
+exactly w = record { runs = λ front occurs. (tt, a_word w) }
+
+pub beside : {text : List ℕ} {X Y : Type 0} {p : X → List Piece} {q : Y → List Piece} {a b : List ℕ} → Part text p a → Part text q b →
+    Part text (λ (both : X × Y). p both.0 ++ q both.1) (a ++ b)
+beside {text = text} {a = a} {b = b} first second = record {
+  runs = λ front occurs.
+      let x = first.runs front (occurs_left text front a b occurs) in
+      let y = second.runs (front ++ a) (occurs_right text front a b occurs) in
+      ((x.0, y.0), joined x.1 y.1);
+}
+
+-- what is made of a part, where the bytes and the pieces are these too
+pub made : {text : List ℕ} {X Y : Type 0} {p : X → List Piece} {a b : List ℕ} → Part text p a → a ≡ b → (q : Y → List Piece) (f : X → Y) →
+    ((x : X) → p x ≡ q (f x)) → Part text q b
+made {text = text} {a = a} part spelled q f same = subst (Part text q) spelled (record {
+  runs = λ front occurs. let x = part.runs front occurs in (f x.0, subst (λ ps. Run ps front a) (same x.0) x.1);
+})
+
+-- ---- lists of parts
+
+module _ {X Y : Type 0} (numbered_as : X → Option Y) (Holds : X → Type 0) where
+  -- what has a number as this, and keeps so much
+  pub record ListingOfOne (y : Y) : Type 0 where
+    pub line : X
+    pub numbered_is : numbered_as line ≡ Some y
+    pub holds : Holds line
+
+  pub record ListingOfAll (ys : List Y) : Type 0 where
+    pub lines : List X
+    pub numbered_are : all_there (map numbered_as lines) ≡ Some ys
+    pub each : AllByRecursion Holds lines
+
+  -- parts one after another
+  pub all_part : {text : List ℕ} (pieces : X → List Piece) (spelled : Y → List ℕ) (ys : List Y) →
+      AllByRecursion (λ y. Part text (λ (l : ListingOfOne y). pieces l.line) (spelled y)) ys →
+      Part text (λ (l : ListingOfAll ys). flat_map pieces l.lines) (flat_map spelled ys)
+  all_part pieces spelled [] each =
+      made nothing refl (λ l. flat_map pieces l.lines) (λ u. record { lines = []; numbered_are = refl; each = tt }) (λ u. refl)
+  all_part pieces spelled (y ∷ ys) each =
+      made (beside each.0 (all_part pieces spelled ys each.1)) refl (λ l. flat_map pieces l.lines) (λ x. record {
+        lines = x.0.line ∷ x.1.lines;
+        numbered_are = all_there_next numbered_as x.0.line x.1.lines y ys x.0.numbered_is x.1.numbered_are;
+        each = (x.0.holds, x.1.each);
+      }) (λ x. refl)
+
+-- what is made of the images
+pub flat_map_of_map : {X Y Z : Type 0} (f : Y → List Z) (g : X → Y) (xs : List X) → flat_map (λ x. f (g x)) xs ≡ flat_map f (map g xs)
+flat_map_of_map f g [] = refl
+flat_map_of_map f g (x ∷ xs) = λ i. f (g x) ++ flat_map_of_map f g xs i

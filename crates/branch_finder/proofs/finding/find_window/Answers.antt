@@ -1,88 +1,27 @@
-use Rattle.std.proofs.Common.{◌∙◌, ◌<◌, ◌≤◌, ◌*◌, ◌^◌, List, ℕ, length, map, inl, inr, sym, ap, subst, arith}
-use Rattle.std.specs.List.{AllByRecursion}
-use Rattle.std.proofs.lemmas.Bool.{cases_lt}
-use Rattle.tsl_terms.specs.TermTree.{term_tree}
+use Rattle.std.proofs.Common.{map, sym, subst, arith}
+use Rattle.std.proofs.lemmas.Option.{IfSome_then}
+use Rattle.tsl_terms.specs.WindowTree.{window_tree}
 use Rattle.letter_space.specs.ControlledView.{controlled_tree}
 use Rattle.letter_space.specs.SpaceView.{space_tree}
 use Rattle.letter_space.proofs.Bounds.{some_vector}
-use Rattle.machines.specs.Visits.{IsVisited}
 use Rattle.machines.specs.MachineView.{environment_tree}
-use Rattle.branch_finder.specs.declared.limits.TheConstants.{MOST_BRANCHES}
-use Rattle.branch_finder.specs.internal.Prints.{ArePrints}
-use Rattle.branch_finder.specs.internal.Sets.{set_of, AreFirsts}
-use Rattle.branch_finder.specs.internal.Planes.{IsPlaneOf, AreLinksOf}
-use Rattle.branch_finder.specs.internal.Visiting.{AreVisited}
-use Rattle.branch_finder.proofs.LoopFacts.{false_is_not_true}
-use Rattle.branch_finder.proofs.MoveLemmas.{visited_within, visited_plane}
-use Rattle.branch_finder.proofs.Paths.{paths_within, powers_below}
-use Rattle.branch_finder.proofs.VisitLemmas.{is_environment}
-use Rattle.branch_finder.proofs.Found.{some_first}
+use Rattle.branch_finder.specs.internal.Relevant.{AreRelevant}
+use Rattle.branch_finder.proofs.RelevantCells.{found_of_relevant, none_of_relevant}
 use Rattle.branch_finder.proofs.finding.find_window.Goals as goal
 
 pub are_too_many-requires-clause-some : goal.are_too_many-requires-clause-some
 are_too_many-requires-clause-some c =
     omega (arith, some_vector (map controlled_tree c.args.space.now.controlled) c.args.space.now.is_space.chosen, c.requires.fits.vectors)
 
-pub plane_of-requires : goal.plane_of-requires
-plane_of-requires c =
-    let e = environment_tree c.args.environment.now in
-    record {
-      within = subst (AllByRecursion (λ s. s < c.args.environment.now.states)) (sym c.as_slice.ensures.value)
-          (visited_within e c.in_ok-visited.visited.items (is_environment c.args.environment.now) c.in_ok-visited.ensures);
-    }
+pub returns-clause-found : goal.returns-clause-found
+returns-clause-found c =
+    let are = subst (AreRelevant (space_tree c.args.space.now) c.args.cells.now) (sym c.as_slice.ensures.value) c.in_ok-relevant.ensures in
+    IfSome_then c.in_ok-window_of_cells.field-0 c.in_ok-window_of_cells.ensures.found
+    (λ w found. found_of_relevant (space_tree c.args.space.now) (environment_tree c.args.environment.now) c.args.cells.now
+    c.as_slice.result.now c.args.equality c.args.depth (window_tree w) are found)
 
-pub vector_masks-requires : goal.vector_masks-requires
-vector_masks-requires c = record { vectors = omega (arith, c.requires.fits.vectors) }
-
-pub sets_of-requires : goal.sets_of-requires
-sets_of-requires c = record { vectors = omega (arith, c.requires.fits.vectors) }
-
-pub links_of-requires : goal.links_of-requires
-links_of-requires c = record { masks = c.as_slice-2.ensures.value ∙ c.in_ok-masks.ensures }
-
--- the first vectors of sets
-firsts_are : (c : goal.After-search-1) → AreFirsts (space_tree c.args.space.now) c.args.cells.now c.args.environment.now.vectors
-    c.as_slice-8.result.now
-firsts_are c =
-    subst (AreFirsts (space_tree c.args.space.now) c.args.cells.now c.args.environment.now.vectors) (sym c.as_slice-8.ensures.value)
-    c.in_ok-sets.ensures.sets.are_firsts
-
-some : (c : goal.After-search-1) → 1 ≤ c.args.environment.now.vectors
-some c =
-    omega (arith, some_vector (map controlled_tree c.args.space.now.controlled) c.args.space.now.is_space.chosen, c.requires.fits.vectors)
-
-pub least_window-requires-clause-search : goal.least_window-requires-clause-search
-least_window-requires-clause-search c =
-    let space = space_tree c.args.space.now in
-    let e = environment_tree c.args.environment.now in
-    let cells = c.args.cells.now in
-    record {
-      fits = c.requires.fits;
-      visited = subst (IsPlaneOf c.args.environment.now.states (IsVisited e)) (sym c.as_slice-4.ensures.value)
-          (visited_plane e c.as_slice.result.now c.in_ok-visited-2.visited.items
-          (subst (AreVisited e) (sym c.as_slice.ensures.value) c.in_ok-visited.ensures) c.in_ok-visited-2.ensures);
-      mask = c.equality_bits-mask.ensures;
-      prints = subst (ArePrints e c.equality_bits-mask.result) (sym c.as_slice-5.ensures.value) c.in_ok-prints.ensures;
-      terms = ap (map term_tree) c.as_slice-6.ensures.value ∙ c.in_ok-arguments.ensures.terms;
-      starts = c.as_slice-7.ensures.value ∙ c.in_ok-arguments.ensures.starts;
-      firsts = firsts_are c;
-      few = omega (arith, ap length c.as_slice-8.ensures.value, c.in_ok-sets.ensures.small);
-      links = subst (λ (sets : List ℕ). AreLinksOf space e sets c.as_slice-9.result.now)
-          (c.as_slice-3.ensures.value ∙ c.in_ok-sets.ensures.sets.are_sets ∙ ap (map (set_of space cells)) (sym c.as_slice-8.ensures.value))
-          (subst (AreLinksOf space e c.as_slice-3.result.now) (sym c.as_slice-9.ensures) c.in_ok-links.ensures);
-    }
-
-pub least_window-requires-clause-some : goal.least_window-requires-clause-some
-least_window-requires-clause-some c =
-    some_first (space_tree c.args.space.now) c.args.cells.now c.as_slice-8.result.now c.args.environment.now.vectors (firsts_are c) (some c)
-
-pub least_window-requires-clause-few : goal.least_window-requires-clause-few
-least_window-requires-clause-few c =
-    let vectors = c.args.environment.now.vectors in
-    let predicates = c.len-predicates.result in
-    let sets = powers_below (length c.as_slice-8.result.now) vectors c.args.depth (firsts_are c).few in
-    let paths = paths_within predicates vectors (some c) c.args.depth (omega (arith, c.if-predicates-eq0.false)) in
-    elim (cases_lt MOST_BRANCHES (predicates ^ 2 * vectors ^ c.args.depth)) [
-      | inl many ↦ absurd (false_is_not_true c.are_too_many.result c.if-are_too_many.false (c.are_too_many.ensures.1 many))
-      | inr few ↦ omega (arith, sets, paths, few)
-    ]
+pub returns-clause-none : goal.returns-clause-none
+returns-clause-none c =
+    let are = subst (AreRelevant (space_tree c.args.space.now) c.args.cells.now) (sym c.as_slice.ensures.value) c.in_ok-relevant.ensures in
+    none_of_relevant (space_tree c.args.space.now) (environment_tree c.args.environment.now) c.args.cells.now c.as_slice.result.now
+    c.args.equality c.args.depth c.in_ok-window_of_cells.field-0 are c.in_ok-window_of_cells.ensures.none
