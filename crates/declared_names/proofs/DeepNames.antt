@@ -1,5 +1,5 @@
 -- Where the uses of a formula are within the deepest level, none of its names is a use that is too deep.
-use Rattle.std.proofs.Common.{◌≡◌, ℕ, suc, ◌+◌, ◌≤◌, Bool, true, false, not, List, [], ◌∷◌, ◌++◌, refl, ap, ◌∙◌, arith}
+use Rattle.std.proofs.Common.{◌≡◌, ℕ, ◌+◌, ◌≤◌, Bool, true, false, not, List, [], ◌∷◌, refl, ap, ◌∙◌, arith}
 use Rattle.std.specs.Prelude.{◌&&◌, Option, Some, None, nat_lt, if◌then◌else◌}
 use Rattle.std.specs.List.{list_all, AllByRecursion}
 use Rattle.std.proofs.Math.Bool.{and-false}
@@ -7,16 +7,11 @@ use Rattle.std.proofs.lemmas.Bool.{ltb-true}
 use Rattle.sequence.proofs.Each.{each_weaker}
 use Rattle.tsl_terms.specs.declared.names.NameKind.{NameKind}
 use Rattle.tsl_terms.specs.declared.names.NameKind.TheVariants.{Signal, Function, Predicate}
-use Rattle.spec_syntax.specs.Syntax.{TermSyntax, alone, applied, grouped_term, TermsSyntax, no_terms, more_terms}
-use Rattle.spec_syntax.specs.Syntax.{FormulaSyntax, truth, falsehood, bare, tested, updated, grouped, under, between}
-use Rattle.spec_syntax.specs.Syntax.{joined, FormulasSyntax, no_formulas, more_formulas}
-use Rattle.named_formulas.specs.Expansion.{passed_names}
-use Rattle.named_formulas.specs.Occurrences.{count_of}
-use Rattle.named_formulas.specs.UseLevels.{At, level_of_right, test_at, uses_at, members_uses_at, IsUseWithin, AreWithin}
-use Rattle.declared_names.specs.declared.occurrence.Role.{Role}
+use Rattle.spec_syntax.specs.Syntax.{FormulaSyntax}
+use Rattle.named_formulas.specs.UseLevels.{At, test_at, uses_at, IsUseWithin, AreWithin}
 use Rattle.declared_names.specs.declared.occurrence.Role.TheVariants.{Plain, Parameter, Used, Misused}
-use Rattle.declared_names.specs.Occurrences.{Occurrence, Scope, role_in, atom_role, occurrence, occurrence_alone}
-use Rattle.declared_names.specs.Occurrences.{term_occurrences, terms_occurrences, formula_occurrences, members_occurrences}
+use Rattle.declared_names.specs.Occurrences.{Occurrence, Scope, role_in, atom_role, occurrence}
+use Rattle.declared_names.specs.Occurrences.{formula_occurrences}
 use Rattle.declared_names.specs.Faults.{is_used, deepest_level, passes_deepest}
 use Rattle.declared_names.proofs.EachName.{each_used, each_name}
 

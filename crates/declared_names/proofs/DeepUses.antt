@@ -1,21 +1,20 @@
 -- Where no use of a formula is too deep, its uses are within the deepest level.
-use Rattle.std.proofs.Common.{◌≡◌, ℕ, suc, ◌+◌, Bool, true, false, not, List, [], ◌∷◌, ◌++◌, refl, ap}
+use Rattle.std.proofs.Common.{◌≡◌, ℕ, suc, ◌+◌, Bool, true, false, not, List, [], refl, ap}
 use Rattle.std.specs.Prelude.{◌&&◌, Option, Some, None, option_and_then, slice_get, if◌then◌else◌}
 use Rattle.std.specs.List.{list_all, AllByRecursion}
 use Rattle.std.proofs.lemmas.Bool.{ltb-false}
 use Rattle.sequence.proofs.Options.{none_is}
 use Rattle.sequence.proofs.Each.{each_left, each_right}
-use Rattle.tsl_terms.specs.declared.names.NameKind.TheVariants.{Signal, Predicate}
+use Rattle.tsl_terms.specs.declared.names.NameKind.TheVariants.{Predicate}
 use Rattle.tsl_terms.specs.Name.{Name, number_of}
-use Rattle.spec_syntax.specs.Syntax.{TermsSyntax}
 use Rattle.spec_syntax.specs.Syntax.{FormulaSyntax, truth, falsehood, bare, tested, updated, grouped, under, between}
 use Rattle.spec_syntax.specs.Syntax.{joined, FormulasSyntax, no_formulas, more_formulas}
 use Rattle.named_formulas.specs.Expansion.{passed_names}
 use Rattle.named_formulas.specs.Occurrences.{count_of}
-use Rattle.named_formulas.specs.UseLevels.{At, level_of_right, test_at, uses_at, members_uses_at, IsUseWithin, AreWithin}
+use Rattle.named_formulas.specs.UseLevels.{level_of_right, test_at, uses_at, members_uses_at, IsUseWithin, AreWithin}
 use Rattle.declared_names.specs.declared.occurrence.Role.TheVariants.{Plain, Parameter, Used, Misused}
 use Rattle.declared_names.specs.Heads.{is_name}
-use Rattle.declared_names.specs.Occurrences.{Occurrence, Scope, of_section, role_in, atom_role, occurrence, occurrence_alone, terms_occurrences}
+use Rattle.declared_names.specs.Occurrences.{Occurrence, Scope, of_section, role_in, atom_role, occurrence}
 use Rattle.declared_names.specs.Occurrences.{formula_occurrences, members_occurrences}
 use Rattle.declared_names.specs.Faults.{deepest_level, levels_for, passes_deepest, is_deep_use}
 use Rattle.declared_names.specs.WellDeclared.{used_well_as, is_used_well}

@@ -1,25 +1,24 @@
 -- What the sections of a text expand to, where its names are well: they use no name in a new way, and derive exactly where no
 -- use is too deep.
-use Rattle.std.proofs.Common.{◌≡◌, ℕ, zero, suc, ◌+◌, ◌<◌, ◌≤◌, Bool, true, false, not, min, List, [], ◌∷◌, ◌++◌, length, map, refl, ap, sym, ◌∙◌, subst, arith}
-use Rattle.std.specs.Prelude.{◌&&◌, Option, Some, None, option_map, flat_map, slice_get, position, if◌then◌else◌}
+use Rattle.std.proofs.Common.{◌≡◌, ℕ, zero, suc, ◌+◌, ◌≤◌, true, false, not, min, List, [], ◌∷◌, length, map, refl, sym, subst, arith}
+use Rattle.std.specs.Prelude.{Option, Some, None, flat_map, slice_get, position}
 use Rattle.std.specs.List.{list_all, AllByRecursion}
-use Rattle.std.specs.Option.{is_some}
 use Rattle.std.proofs.lemmas.Option.{none-some, same_Some}
 use Rattle.sequence.proofs.Each.{each_from_places, each_joined, each_map, each_flat_map, each_weaker, each_both, each_unmapped}
 use Rattle.sequence.proofs.Passes.{list_all_from_each}
 use Rattle.tsl_terms.specs.Name.{Name}
-use Rattle.tsl_terms.specs.Clashes.{with_use, first_uses}
+use Rattle.tsl_terms.specs.Clashes.{with_use}
 use Rattle.spec_syntax.specs.Syntax.{Terminal, FormulaSyntax, SectionSyntax, Definition, Declaration, the_section, the_definition, sections_among}
-use Rattle.spec_syntax.specs.Grammar.{IsFormula, AreItems, nothing, last_item, item, IsSection, braces, AreSections, no_section, section}
+use Rattle.spec_syntax.specs.Grammar.{AreItems, nothing, last_item, item, braces, AreSections}
 use Rattle.spec_syntax.specs.Grammar.{IsDefinition, equation, AreDeclarations, no_declaration, a_section, a_definition}
 use Rattle.spec_syntax.specs.Levels.{depth}
-use Rattle.spec_syntax.proofs.Written.{formula_is, formula_fits}
+use Rattle.spec_syntax.proofs.Written.{formula_fits}
 use Rattle.spec_syntax.proofs.DeclarationLaws.{sections_derive}
 use Rattle.named_formulas.specs.DefinitionView.{named_in}
 use Rattle.named_formulas.specs.Expansion.{expanded, expansion_within}
 use Rattle.named_formulas.specs.TextExpansion.{Expands}
 use Rattle.named_formulas.specs.WellUsed.{as_written, UsesWell, AreRanked}
-use Rattle.named_formulas.specs.Folds.{fold_by, number_within, depths}
+use Rattle.named_formulas.specs.Folds.{fold_by, depths}
 use Rattle.named_formulas.specs.ExpansionSizes.{number_in}
 use Rattle.named_formulas.specs.declared.sizing.TheConstants.{LEVELS_STOP}
 use Rattle.named_formulas.specs.Derivable.{Derivable, FormulaDerives, BodiesDerive}
@@ -32,12 +31,12 @@ use Rattle.named_formulas.proofs.NoNewUses.{no_new_use}
 use Rattle.named_formulas.proofs.LevelLaws.{expansion_derives, expansion_needs, uses_are_within, formula_is_within}
 use Rattle.named_formulas.proofs.SizeLemmas.{formula_stopped, depths_stop}
 use Rattle.named_formulas.proofs.SectionExpansion.{sections_expand, one_expansion_of_sections}
-use Rattle.declared_names.specs.Heads.{head_of, definitions_in, heads_in}
+use Rattle.declared_names.specs.Heads.{head_of, definitions_in}
 use Rattle.declared_names.specs.Occurrences.{Occurrence, of_section, of_body, formula_occurrences, section_occurrences}
-use Rattle.declared_names.specs.Occurrences.{definition_occurrences, declaration_occurrences, occurrences_behind, head_name, parameter_name, is_repeated}
+use Rattle.declared_names.specs.Occurrences.{definition_occurrences, occurrences_behind, head_name, parameter_name, is_repeated}
 use Rattle.declared_names.specs.Heads.{is_name}
 use Rattle.declared_names.specs.Faults.{deepest_level, is_deep_use, levels_for}
-use Rattle.declared_names.specs.WellDeclared.{heads_of, names_in, AreNamedWell, is_use_too_deep, AreLevels, RanksFall, IsWellDeclared, UsesFit, occurs_plain, IsPlainlyUsed}
+use Rattle.declared_names.specs.WellDeclared.{heads_of, names_in, AreNamedWell, is_use_too_deep, AreLevels, IsWellDeclared, UsesFit, occurs_plain, IsPlainlyUsed}
 use Rattle.declared_names.proofs.Ranked.{ranks_are}
 use Rattle.declared_names.proofs.WholeText.{text_well, text_ranked, text_fits, text_plain}
 use Rattle.declared_names.proofs.DeepNames.{IsWithin, other_within, names_within, body_within}

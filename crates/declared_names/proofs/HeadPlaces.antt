@@ -1,6 +1,6 @@
 -- Definitions that have an order reach not themselves, and each has its place among the names of the text.
-use Rattle.std.proofs.Common.{◌≡◌, ℕ, zero, suc, ◌<◌, Bool, true, false, not, List, [], ◌∷◌, ◌++◌, map, refl, ap, sym, ◌∙◌, subst, arith}
-use Rattle.std.specs.Prelude.{◌&&◌, ◌||◌, Option, Some, None, flat_map, position, slice_get, IsTrue, if◌then◌else◌}
+use Rattle.std.proofs.Common.{◌≡◌, ℕ, zero, suc, ◌<◌, Bool, true, false, List, [], ◌∷◌, ◌++◌, refl, ap, sym, ◌∙◌, subst, arith}
+use Rattle.std.specs.Prelude.{◌&&◌, Option, Some, None, position, slice_get, IsTrue, if◌then◌else◌}
 use Rattle.std.specs.List.{list_any, AllByRecursion}
 use Rattle.std.specs.Option.{is_some}
 use Rattle.std.specs.Str.{bytes_eq}
@@ -19,10 +19,9 @@ use Rattle.named_formulas.specs.DefinitionView.{named_in}
 use Rattle.named_formulas.specs.Reaching.{Reaches, one, more, Using}
 use Rattle.named_formulas.specs.Uses.{uses_of, IsOrder}
 use Rattle.named_formulas.proofs.NamedLemmas.{AreApart, named_at}
-use Rattle.declared_names.specs.declared.occurrence.Role.{Role}
 use Rattle.declared_names.specs.declared.occurrence.Role.TheVariants.{Head, Redefined}
 use Rattle.declared_names.specs.Heads.{head_of, is_name, definitions_in}
-use Rattle.declared_names.specs.Occurrences.{Occurrence, of_body, formula_occurrences, section_occurrences, head_name, parameter_name, is_repeated}
+use Rattle.declared_names.specs.Occurrences.{Occurrence, section_occurrences, head_name}
 use Rattle.declared_names.specs.Occurrences.{definition_occurrences, occurrences_behind, occurrences}
 use Rattle.declared_names.specs.Faults.{is_redefined, is_head, is_head_of}
 use Rattle.declared_names.specs.WellDeclared.{NoneOnCycle, names_in}

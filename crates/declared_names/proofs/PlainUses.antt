@@ -18,7 +18,6 @@ use Rattle.tsl_terms.specs.Clashes.{alike_in_kind}
 use Rattle.spec_syntax.specs.Syntax.{TermSyntax, alone, applied, grouped_term, TermsSyntax, no_terms, more_terms}
 use Rattle.spec_syntax.specs.Syntax.{FormulaSyntax, truth, falsehood, bare, tested, updated, grouped, under, between}
 use Rattle.spec_syntax.specs.Syntax.{joined, FormulasSyntax, no_formulas, more_formulas, Definition}
-use Rattle.named_formulas.specs.Expansion.{passed_names}
 use Rattle.named_formulas.specs.Occurrences.{NameUses, Passing, count_of, TermOccurs, TermsOccur, Plain, MembersPlain, InBody}
 use Rattle.named_formulas.specs.Reaching.{Among, first, later}
 use Rattle.named_formulas.specs.UseLevels.{level_of_right}

@@ -1,5 +1,5 @@
 -- Where no definition of a text reaches itself, there are ranks that fall along its uses.
-use Rattle.std.proofs.Common.{◌≡◌, ℕ, zero, suc, ◌<◌, Bool, true, false, List, [], ◌∷◌, length, map, refl, ap, sym, ◌∙◌, subst, arith}
+use Rattle.std.proofs.Common.{◌≡◌, ℕ, zero, suc, ◌<◌, true, false, List, [], ◌∷◌, length, map, refl, ap, sym, ◌∙◌, subst, arith}
 use Rattle.std.specs.Prelude.{◌&&◌, Option, Some, None, slice_get, position}
 use Rattle.std.specs.List.{AllByRecursion}
 use Rattle.std.specs.Option.{is_some, option_map_or}
@@ -8,7 +8,6 @@ use Rattle.std.proofs.lemmas.Option.{none-some, same_Some}
 use Rattle.sequence.proofs.Each.{each_from_places}
 use Rattle.sequence.proofs.Options.{some_is}
 use Rattle.tsl_terms.specs.Name.{AreDistinct}
-use Rattle.tsl_terms.specs.Clashes.{first_uses}
 use Rattle.tsl_terms.proofs.FirstUses.{first_uses_distinct}
 use Rattle.spec_syntax.specs.Syntax.{FormulaSyntax, Definition, Declaration, the_section, the_definition}
 use Rattle.named_formulas.specs.DefinitionView.{named_in}

@@ -1,7 +1,7 @@
 -- A text of which no name is wrong where it stands.
-use Rattle.std.proofs.Common.{◌≡◌, ℕ, Bool, true, false, cond, not, List, [], ◌∷◌, ◌++◌, map, refl, ap, sym, ◌∙◌, subst, append_assoc}
-use Rattle.std.specs.Prelude.{◌&&◌, ◌||◌, Option, Some, None, option_map, flat_map, position, if◌then◌else◌}
-use Rattle.std.specs.List.{list_all, list_any, AllByRecursion}
+use Rattle.std.proofs.Common.{◌≡◌, ℕ, Bool, true, false, cond, List, [], ◌∷◌, ◌++◌, map, refl, ap, sym, ◌∙◌, subst, append_assoc}
+use Rattle.std.specs.Prelude.{◌||◌, Option, Some, None, option_map, position, if◌then◌else◌}
+use Rattle.std.specs.List.{list_any, AllByRecursion}
 use Rattle.std.specs.Option.{is_some}
 use Rattle.std.specs.Str.{bytes_eq}
 use Rattle.std.proofs.lemmas.List.{append-nil}
@@ -15,15 +15,13 @@ use Rattle.tsl_terms.specs.Clashes.{added_unless_found, with_use, with_uses, fir
 use Rattle.tsl_terms.proofs.FirstUses.{first_of, named_first, named_is}
 use Rattle.spec_syntax.specs.Syntax.{SectionSyntax, Definition, Declaration, the_section, the_definition}
 use Rattle.named_formulas.specs.DefinitionView.{named_in}
-use Rattle.named_formulas.specs.Occurrences.{Passing, Plain}
-use Rattle.named_formulas.specs.UseLevels.{uses_at, AreWithin}
 use Rattle.named_formulas.specs.WellUsed.{IsFree, AreFree, UsesWell, AreRanked}
 use Rattle.declared_names.specs.declared.occurrence.Role.TheVariants.{Head, Redefined, Parameter}
 use Rattle.declared_names.specs.Heads.{head_of, definitions_in, heads_in, is_name, is_among}
-use Rattle.declared_names.specs.Occurrences.{Occurrence, Scope, of_section, of_body, formula_occurrences, section_occurrences, is_repeated}
-use Rattle.declared_names.specs.Occurrences.{head_name, parameter_name, definition_occurrences, occurrences_behind, occurrences}
-use Rattle.declared_names.specs.Faults.{is_redefined, deepest_level, levels_for, is_deep_use, name_with, is_unlike_first, is_unlike_name, has_kind_fault, has_arity_fault}
-use Rattle.declared_names.specs.WellDeclared.{UsesAreBelow, RanksFall, IsWellDeclared, is_used_well, UsesFit, occurs_plain, IsPlainlyUsed}
+use Rattle.declared_names.specs.Occurrences.{Occurrence, of_section, of_body, formula_occurrences, section_occurrences, is_repeated}
+use Rattle.declared_names.specs.Occurrences.{parameter_name, definition_occurrences, occurrences_behind, occurrences}
+use Rattle.declared_names.specs.Faults.{is_redefined, is_deep_use, name_with, is_unlike_first, is_unlike_name, has_kind_fault, has_arity_fault}
+use Rattle.declared_names.specs.WellDeclared.{UsesAreBelow, RanksFall, IsWellDeclared, is_used_well, UsesFit, IsPlainlyUsed}
 use Rattle.declared_names.proofs.NameTests.{any_from, is_name_any}
 use Rattle.declared_names.proofs.EachName.{from_formulas, from_declarations}
 use Rattle.declared_names.proofs.UsedWell.{well_from, uses_well}
