@@ -6,7 +6,7 @@ use Rattle.std.proofs.lemmas.List.{map-append, append-nil}
 use Rattle.std.specs.Prelude.{Some, None, Err, slice_get, position}
 use Rattle.tsl_text.specs.declared.Token.{Token}
 use Rattle.tsl_text.specs.declared.TextError.{TextError}
-use Rattle.tsl_text.specs.declared.TextError.TheVariants.{Byte, OpenComment}
+use Rattle.tsl_text.specs.declared.TextError.TheVariants.{Byte, OpenComment, NoMemory}
 use Rattle.tsl_text.specs.Division.{AreTokens, IsAnswer}
 use Rattle.tsl_text.proofs.Parts.{one_answer}
 use Rattle.tsl_terms.specs.SpecTree.{SpecTree}
@@ -76,48 +76,48 @@ one_stop text b c t u (later more e) x y =
     absurd (no_more text c u more y.stops (subst (λ ts. SomeDeclarationsBegin deepest_level (terminals text ts)) e x.begins))
 
 -- at one place of one text
-one_stop_of : {text : List ℕ} {b a c e : List Token} {t u : Token} → AreTokens text (b ++ t ∷ a) → AreTokens text (c ++ u ∷ e) →
-    StopsAt text b t → StopsAt text c u → (b ≡ c) × (t ≡ u)
-one_stop_of {text = text} {b = b} {a = a} {c = c} {e = e} {t = t} {u = u} are also =
+one_stop_of : {text : List ℕ} {b c : List Token} {t u : Token} (a e : List Token) → AreTokens text (b ++ t ∷ a) →
+    AreTokens text (c ++ u ∷ e) → StopsAt text b t → StopsAt text c u → (b ≡ c) × (t ≡ u)
+one_stop_of {text = text} {b = b} {c = c} {t = t} {u = u} a e are also =
     one_stop text b c t u (places b t a c u e (one_list text (b ++ t ∷ a) (c ++ u ∷ e) are also))
 
 -- tokens with which some text begins have none that stops it
-no_stop : {text : List ℕ} {tokens before : List Token} {token : Token} {after : List Token} → AreTokens text tokens →
+no_stop : {text : List ℕ} {tokens : List Token} (before : List Token) (token : Token) (after : List Token) → AreTokens text tokens →
     AreTokens text (before ++ token ∷ after) → SomeDeclarationsBegin deepest_level (terminals text tokens) →
     NoDeclarationsBegin deepest_level (terminals text (before ++ token ∷ [])) → ⊥
-no_stop {text = text} {tokens = tokens} {before = before} {token = token} {after = after} are k begins stops =
+no_stop {text = text} {tokens = tokens} before token after are k begins stops =
     no_more text before token after stops
     (subst (λ ts. SomeDeclarationsBegin deepest_level (terminals text ts)) (one_list text tokens (before ++ token ∷ after) are k) begins)
 
 one_wrong : (text : List ℕ) (x y : ℕ) → HasWrongToken text x → HasWrongToken text y → x ≡ y
 one_wrong text x y h k =
-    let same = one_stop_of h.tokens_are k.tokens_are (record { begins = h.begins; stops = h.stops deepest_level })
+    let same = one_stop_of h.after k.after h.tokens_are k.tokens_are (record { begins = h.begins; stops = h.stops deepest_level })
     (record { begins = k.begins; stops = k.stops deepest_level }) in
     h.place ∙ ap (λ (t : Token). t.start) same.1 ∙ sym k.place
 
 one_form : (text : List ℕ) (x y : ℕ) → HasFormFault text x → HasFormFault text y → x ≡ y
 one_form text x y (inl h) (inl k) = one_wrong text x y h k
 one_form text x y (inl h) (inr k) =
-    absurd (no_stop k.tokens_are h.tokens_are k.begins (h.stops deepest_level))
+    absurd (no_stop h.before h.token h.after k.tokens_are h.tokens_are k.begins (h.stops deepest_level))
 one_form text x y (inr h) (inl k) =
-    absurd (no_stop h.tokens_are k.tokens_are h.begins (k.stops deepest_level))
+    absurd (no_stop k.before k.token k.after h.tokens_are k.tokens_are h.begins (k.stops deepest_level))
 one_form text x y (inr h) (inr k) = h.place ∙ sym k.place
 
 one_deep : (text : List ℕ) (x y : ℕ) → HasDeepFault text x → HasDeepFault text y → x ≡ y
 one_deep text x y h k =
-    let same = one_stop_of h.tokens_are k.tokens_are (record { begins = h.begins; stops = h.stops })
+    let same = one_stop_of h.after k.after h.tokens_are k.tokens_are (record { begins = h.begins; stops = h.stops })
     (record { begins = k.begins; stops = k.stops }) in
     h.place ∙ ap (λ (t : Token). t.start) same.1 ∙ sym k.place
 
 -- where a token is wrong for any number of levels, none is too deep
 no_form_and_deep : (text : List ℕ) (x y : ℕ) → HasFormFault text x → HasDeepFault text y → ⊥
 no_form_and_deep text x y (inl h) k =
-    let same = one_stop_of h.tokens_are k.tokens_are (record { begins = h.begins; stops = h.stops deepest_level })
+    let same = one_stop_of h.after k.after h.tokens_are k.tokens_are (record { begins = h.begins; stops = h.stops deepest_level })
     (record { begins = k.begins; stops = k.stops }) in
     h.stops k.levels_left k.goes_on.0 k.goes_on.1
     (subst (λ ts. IsText k.levels_left (terminals text ts ++ k.goes_on.0) k.goes_on.1)
     (ap (λ b. b ++ k.token ∷ []) (sym same.0) ∙ ap (λ t. h.before ++ t ∷ []) (sym same.1)) k.goes_on.2)
-no_form_and_deep text x y (inr h) k = no_stop h.tokens_are k.tokens_are h.begins k.stops
+no_form_and_deep text x y (inr h) k = no_stop k.before k.token k.after h.tokens_are k.tokens_are h.begins k.stops
 
 -- ---- the first name that is wrong
 
@@ -180,7 +180,8 @@ one_cycle_place : (text : List ℕ) (s e x y : ℕ) → HasCycleFault text s e �
 one_cycle_place text s e x y h k =
     let same = one_derivation text h.tokens k.tokens h.own k.own h.declarations k.declarations h.derives k.derives in
     let name = one_cycle_of h.declarations k.declarations h.number k.number same.0 h.cycle k.cycle in
-    one_named_of (λ qs. is_head_of k.cycle.definition.name) h.derives k.derives (subst (λ n. IsFirstName (is_head_of n) text h.tokens h.declarations s e) name h.named) k.named
+    one_named_of (λ qs. is_head_of k.cycle.definition.name) h.derives k.derives
+    (subst (λ n. IsFirstName (is_head_of n) text h.tokens h.declarations s e) name h.named) k.named
 
 none_cyclic : (ds es : List Declaration) (i : ℕ) → ds ≡ es → IsFirstOnCycle (definitions_in ds) i → NoneOnCycle (definitions_in es) → ⊥
 none_cyclic ds es i same h =
@@ -268,12 +269,13 @@ stuck : (text : List ℕ) (e : SpecError) → IsOfText e → HasCause text e →
 stuck text (error.Byte at) of h k = no_tokens text (Byte at) h k.0 k.1
 stuck text (error.OpenComment at) of h k = no_tokens text (OpenComment at) h k.0 k.1
 stuck text (error.Form at) of (inl h) k =
-    no_stop k.3.tokens_are h.tokens_are (derived_begins text k.0 k.1 k.2 k.3) (h.stops deepest_level)
+    no_stop h.before h.token h.after k.3.tokens_are h.tokens_are (derived_begins text k.0 k.1 k.2 k.3) (h.stops deepest_level)
 stuck text (error.Form at) of (inr h) k =
     h.no_text deepest_level k.2
     (subst (λ ts. IsText deepest_level (terminals text ts) k.2) (one_list text k.0 h.tokens k.3.tokens_are h.tokens_are)
     (k.1, k.3.derived))
-stuck text (error.Deep at) of h k = no_stop k.3.tokens_are h.tokens_are (derived_begins text k.0 k.1 k.2 k.3) h.stops
+stuck text (error.Deep at) of h k =
+    no_stop h.before h.token h.after k.3.tokens_are h.tokens_are (derived_begins text k.0 k.1 k.2 k.3) h.stops
 stuck text (error.Defined start end) of h k =
     none_named (λ qs o. is_redefined o.role) h.derives k.3 h.named k.4
 stuck text (error.Cycle start end) of h k =
@@ -298,6 +300,7 @@ one_text text a b h k =
 abbrev of_text : TextError → SpecError
 of_text (Byte at) = error.Byte at
 of_text (OpenComment at) = error.OpenComment at
+of_text NoMemory = error.NoMemory
 
 at_one_stage : (text : List ℕ) (a b : SpecError) → stage a ≡ stage b → IsOfText a → HasCause text a → HasCause text b → a ≡ b
 at_one_stage text (error.Byte x) (error.Byte y) e of h k = ap of_text (one_text text (Byte x) (Byte y) h k)

@@ -1,5 +1,5 @@
 -- Parameters, each once: where no name in a head is wrong, all of them.
-use Rattle.std.proofs.Common.{◌≡◌, ℕ, ◌+◌, ◌<◌, Bool, true, false, not, List, [], ◌∷◌, ◌++◌, map, length, drop, get_or, refl, ap, sym, ◌∙◌}
+use Rattle.std.proofs.Common.{◌≡◌, ℕ, ◌+◌, ◌<◌, Bool, true, false, List, [], ◌∷◌, ◌++◌, map, length, drop, get_or, refl, ap, sym, ◌∙◌}
 use Rattle.std.proofs.Common.{append_assoc}
 use Rattle.std.specs.Prelude.{◌&&◌, ◌||◌, None, position, if◌then◌else◌}
 use Rattle.std.specs.List.{AllByRecursion}
@@ -17,7 +17,7 @@ use Rattle.tsl_terms.specs.Clashes.{added_unless_found, with_use, with_uses}
 use Rattle.spec_syntax.specs.Syntax.{Declaration, the_section, the_definition}
 use Rattle.declared_names.specs.declared.occurrence.Role.TheVariants.{Redefined, Parameter}
 use Rattle.declared_names.specs.Heads.{head_of, definitions_in, is_name, is_among}
-use Rattle.declared_names.specs.Occurrences.{of_body, formula_occurrences, section_occurrences, is_repeated, head_name, parameter_name}
+use Rattle.declared_names.specs.Occurrences.{of_body, formula_occurrences, section_occurrences, is_repeated, parameter_name}
 use Rattle.declared_names.specs.Occurrences.{definition_occurrences, occurrences_behind, occurrences}
 use Rattle.declared_names.specs.Faults.{is_redefined}
 use Rattle.declared_names.proofs.NameTests.{is_name_any, among_pushed}

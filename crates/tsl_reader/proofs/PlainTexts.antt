@@ -1,12 +1,10 @@
 -- A text without a definition expands to itself.
-use Rattle.std.proofs.Common.{◌≡◌, ℕ, ◌-◌, ◌<◌, ◌≤◌, ◌^◌, false, List, [], ◌∷◌, length, map, refl, ap, sym, subst, arith}
-use Rattle.std.specs.Prelude.{Option, None}
+use Rattle.std.proofs.Common.{◌≡◌, ℕ, ◌-◌, ◌<◌, ◌^◌, List, [], ◌∷◌, length, map, refl, ap, sym, subst, arith}
 use Rattle.std.proofs.lemmas.List.{length-map}
 use Rattle.tsl_text.specs.declared.Token.{Token}
 use Rattle.tsl_terms.specs.Name.{Name}
 use Rattle.spec_syntax.specs.Syntax.{SectionSyntax, Declaration, the_section, the_definition}
 use Rattle.spec_syntax.specs.Syntax.{sections_among}
-use Rattle.spec_syntax.specs.Texts.{terminals}
 use Rattle.spec_syntax.proofs.DeclarationLaws.{sections_derive}
 use Rattle.named_formulas.specs.DefinitionView.{named_in}
 use Rattle.named_formulas.specs.TextExpansion.{Expands}

@@ -77,6 +77,41 @@ texts_of_heads [] = refl
 texts_of_heads (the_section s ∷ ds) = texts_of_heads ds
 texts_of_heads (the_definition d ∷ ds) = ap (λ xs. d.name ∷ xs) (texts_of_heads ds)
 
+module _ {text : List ℕ} {tokens : List Token} {heads : List Name} {all : List Occurrence} where
+  cycle_of : {number : ℕ} {place : Option ℕ} {token : Token} → (n : AreTextNames text tokens heads all) →
+      position (λ o. is_redefined o.role) (names_in n.declarations) ≡ None →
+      Some token ≡ option_and_then (slice_get (name_tokens text tokens)) place →
+      (cycle : IsFirstOnCycle (definitions_in n.declarations) number) → place ≡ position (is_head_of cycle.definition.name) all →
+      HasCycleFault text token.start token.end
+  cycle_of {number = number} {place = place} {token = token} n once found cycle is = record {
+    tokens = tokens;
+    own = n.own;
+    declarations = n.declarations;
+    derives = n.derives;
+    once = once;
+    number = number;
+    cycle = cycle;
+    named = first_named (is_head_of cycle.definition.name) text tokens n.declarations place token
+        (is ∙ ap (position (is_head_of cycle.definition.name)) n.names_are) found;
+  }
+
+  pub head_told : {place : Option ℕ} {token : Token} → AreTextNames text tokens heads all → place ≡ position (λ o. is_redefined o.role) all →
+      Some token ≡ option_and_then (slice_get (name_tokens text tokens)) place → HasHeadFault text token.start token.end
+  head_told {place = place} {token = token} n is found = record {
+    tokens = tokens;
+    own = n.own;
+    declarations = n.declarations;
+    derives = n.derives;
+    named = first_named (λ o. is_redefined o.role) text tokens n.declarations place token
+        (is ∙ ap (position (λ o. is_redefined o.role)) n.names_are) found;
+  }
+
+  pub no_head_fault : {place : Option ℕ} → AreTextNames text tokens heads all → place ≡ position (λ o. is_redefined o.role) all →
+      None ≡ option_and_then (slice_get (name_tokens text tokens)) place → position (λ o. is_redefined o.role) all ≡ None
+  no_head_fault {place = place} n is none =
+      let same = ap (position (λ o. is_redefined o.role)) n.names_are in
+      same ∙ no_name (λ o. is_redefined o.role) text tokens n.own n.declarations place n.derives (is ∙ same) none
+
 module _ {text : List ℕ} {tokens : List Token} {heads : List Name} {all : List Occurrence} {sections : List SectionSyntax} where
   once_in : {ds : List Definition} (p : AreTextParts text tokens heads all sections ds) →
       position (λ o. is_redefined o.role) (names_in p.named.declarations) ≡ None
@@ -114,23 +149,6 @@ module _ {text : List ℕ} {tokens : List Token} {heads : List Name} {all : List
       }
 
   -- ---- what is wrong
-
-  cycle_of : {number : ℕ} {place : Option ℕ} {token : Token} → (n : AreTextNames text tokens heads all) →
-      position (λ o. is_redefined o.role) (names_in n.declarations) ≡ None →
-      Some token ≡ option_and_then (slice_get (name_tokens text tokens)) place →
-      (cycle : IsFirstOnCycle (definitions_in n.declarations) number) → place ≡ position (is_head_of cycle.definition.name) all →
-      HasCycleFault text token.start token.end
-  cycle_of {number = number} {place = place} {token = token} n once found cycle is = record {
-    tokens = tokens;
-    own = n.own;
-    declarations = n.declarations;
-    derives = n.derives;
-    once = once;
-    number = number;
-    cycle = cycle;
-    named = first_named (is_head_of cycle.definition.name) text tokens n.declarations place token
-        (is ∙ ap (position (is_head_of cycle.definition.name)) n.names_are) found;
-  }
 
   pub cycle_told : {ds : List Definition} {number : ℕ} {place : Option ℕ} {token : Token} →
       AreTextParts text tokens heads all sections ds → (cycle : IsFirstOnCycle ds number) →
@@ -222,27 +240,10 @@ module _ {text : List ℕ} {tokens : List Token} {heads : List Name} {all : List
             (is ∙ (λ i. position (is_use_too_deep (w.ordered.parts.definitions_are i)) (n.names_are i))) found;
       }
 
-  pub no_deep_name : {ds qs : List Definition} {place : Option ℕ} → AreWell text tokens heads all sections qs →
+  pub no_deep_name : (ds : List Definition) {qs : List Definition} {place : Option ℕ} → AreWell text tokens heads all sections qs →
       place ≡ position (is_use_too_deep ds) all → None ≡ option_and_then (slice_get (name_tokens text tokens)) place →
       position (is_use_too_deep ds) all ≡ None
-  no_deep_name {ds = ds} {place = place} w is none =
+  no_deep_name ds {place = place} w is none =
       let n = w.ordered.parts.named in
       let same = ap (position (is_use_too_deep ds)) n.names_are in
       same ∙ no_name (is_use_too_deep ds) text tokens n.own n.declarations place n.derives (is ∙ same) none
-
-  pub head_told : {place : Option ℕ} {token : Token} → AreTextNames text tokens heads all → place ≡ position (λ o. is_redefined o.role) all →
-      Some token ≡ option_and_then (slice_get (name_tokens text tokens)) place → HasHeadFault text token.start token.end
-  head_told {place = place} {token = token} n is found = record {
-    tokens = tokens;
-    own = n.own;
-    declarations = n.declarations;
-    derives = n.derives;
-    named = first_named (λ o. is_redefined o.role) text tokens n.declarations place token
-        (is ∙ ap (position (λ o. is_redefined o.role)) n.names_are) found;
-  }
-
-  pub no_head_fault : {place : Option ℕ} → AreTextNames text tokens heads all → place ≡ position (λ o. is_redefined o.role) all →
-      None ≡ option_and_then (slice_get (name_tokens text tokens)) place → position (λ o. is_redefined o.role) all ≡ None
-  no_head_fault {place = place} n is none =
-      let same = ap (position (λ o. is_redefined o.role)) n.names_are in
-      same ∙ no_name (λ o. is_redefined o.role) text tokens n.own n.declarations place n.derives (is ∙ same) none

@@ -1,5 +1,5 @@
 -- A text without a definition spells what its sections say, with the names as they stand in them.
-use Rattle.std.proofs.Common.{◌≡◌, ℕ, suc, Bool, true, false, not, List, [], ◌∷◌, ◌++◌, map, refl, arith, ap, sym, ◌∙◌, subst}
+use Rattle.std.proofs.Common.{◌≡◌, ℕ, suc, Bool, false, not, List, [], ◌∷◌, ◌++◌, map, refl, ap, sym, ◌∙◌, subst}
 use Rattle.std.specs.Prelude.{Option, Some, None, flat_map, position, slice_get, option_map, cond, ◌&&◌, ◌||◌}
 use Rattle.std.proofs.Math.Bool.{and-false}
 use Rattle.std.specs.List.{AllByRecursion, list_any}
@@ -14,7 +14,7 @@ use Rattle.tsl_text.specs.Division.{AreTokens}
 use Rattle.tsl_terms.specs.declared.names.NameKind.TheVariants.{Signal, Predicate, Function}
 use Rattle.tsl_terms.specs.Name.{Name, same_kind}
 use Rattle.tsl_terms.specs.Clashes.{first_uses, alike_in_kind, same_arity, HasNoClash}
-use Rattle.tsl_terms.proofs.FirstUses.{first_of, first_some, named_first}
+use Rattle.tsl_terms.proofs.FirstUses.{first_some, named_first}
 use Rattle.tsl_terms.specs.SpecTree.{SpecTree}
 use Rattle.spec_syntax.specs.Syntax.{Terminal, free, word, mark, TermSyntax, alone, applied, grouped_term, TermsSyntax, no_terms, more_terms}
 use Rattle.spec_syntax.specs.Syntax.{FormulaSyntax, truth, falsehood, bare, tested, updated, grouped, under, between}
@@ -25,8 +25,6 @@ use Rattle.spec_syntax.specs.Grammar.{AreSections}
 use Rattle.spec_syntax.specs.Texts.{terminals}
 use Rattle.spec_syntax.proofs.DeclarationLaws.{sections_are_all}
 use Rattle.named_formulas.specs.DefinitionView.{named_in}
-use Rattle.named_formulas.specs.Expansion.{passed_names}
-use Rattle.named_formulas.specs.Occurrences.{count_of}
 use Rattle.named_formulas.specs.TextExpansion.{Expands, nothing, kept, used}
 use Rattle.named_formulas.specs.UseLevels.{level_of_right}
 use Rattle.named_formulas.specs.WellUsed.{as_written}
@@ -41,7 +39,7 @@ use Rattle.declared_names.specs.Faults.{is_unlike_name}
 use Rattle.declared_names.specs.WellDeclared.{AreNamedWell, NoneOnCycle, heads_of, names_in}
 use Rattle.declared_names.proofs.FirstPlain.{unlike_is}
 use Rattle.declared_names.proofs.NameTests.{any_from}
-use Rattle.tsl_reader.specs.Naming.{Use, use_as, uses, term_uses, terms_uses, members_uses, section_uses, all_uses, written_uses, count_of_arguments}
+use Rattle.tsl_reader.specs.Naming.{Use, uses, term_uses, terms_uses, members_uses, section_uses, all_uses, written_uses}
 use Rattle.tsl_reader.specs.Naming.{names_of, numbered_list, formulas_of_part}
 use Rattle.tsl_reader.specs.Spells.{IsDerived, deepest_level}
 use Rattle.declared_names.proofs.EachName.{each_name}

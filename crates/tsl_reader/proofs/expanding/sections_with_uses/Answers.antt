@@ -4,9 +4,8 @@ use Rattle.spec_syntax.specs.SyntaxView.{section_syntax}
 use Rattle.named_formulas.specs.declared.sizing.TheConstants.{NODES_STOP}
 use Rattle.named_formulas.specs.DefinitionView.{definition_of, AreHeads}
 use Rattle.named_formulas.specs.Uses.{IsOrder}
-use Rattle.named_formulas.specs.ExpansionSizes.{AreSizes}
 use Rattle.declared_names.specs.OccurrenceView.{occurrence_of}
-use Rattle.tsl_reader.specs.ReadText.{AreTextParts, AreWell, AreExpanded}
+use Rattle.tsl_reader.specs.ReadText.{AreTextParts, AreExpanded}
 use Rattle.tsl_reader.specs.Expanding.{expanded_bare, nodes_of_sections}
 use Rattle.tsl_reader.proofs.TextParts.{heads_are_names, in_order}
 use Rattle.tsl_reader.proofs.ExpandedParts.{well_expanded, well_refused, same_order, same_sizes, all_well}

@@ -22,7 +22,7 @@ returns-clause-within c = λ ds are.
     let heads = c.args.names.now.heads in
     let all = map occurrence_of c.args.names.now.occurrences.items in
     let levels = c.deref.ensures.value ∙ c.in_ok-levels.ensures in
-    no_deep_name c.requires.well.2
+    no_deep_name ds c.requires.well.2
     (c.first_deep_use-deep.ensures ∙ (λ i. position (is_deep_use heads (levels i)) (map occurrence_of (c.deref-2.ensures.value i)))
     ∙ first_by_levels heads (levels_of c.args.sizes.now) ds (levels_are heads ds c.args.sizes.now are) all)
     (sym c.in-None.is ∙ c.told_token.ensures)

@@ -1,6 +1,5 @@
 use Rattle.std.proofs.Common.{map, sym, ◌∙◌}
 use Rattle.std.specs.Prelude.{position}
-use Rattle.named_formulas.specs.DefinitionView.{definition_of}
 use Rattle.declared_names.specs.Faults.{is_head_of}
 use Rattle.declared_names.specs.OccurrenceView.{occurrence_of}
 use Rattle.tsl_reader.proofs.TextParts.{named_at, cycle_told, cycle_stands}

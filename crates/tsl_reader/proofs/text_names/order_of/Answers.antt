@@ -1,5 +1,3 @@
-use Rattle.std.proofs.Common.{map}
-use Rattle.declared_names.specs.OccurrenceView.{occurrence_of}
 use Rattle.tsl_reader.proofs.TextParts.{heads_are_names}
 use Rattle.tsl_reader.proofs.text_names.order_of.Goals as goal
 
