@@ -1,14 +1,14 @@
 -- Where no name has a fault of its kind or its number of arguments, plain occurrences of one name are alike.
 use Rattle.std.proofs.Common.{◌≡◌, ℕ, zero, suc, Bool, true, false, not, List, [], ◌∷◌, refl, ap, sym, ◌∙◌, subst}
 use Rattle.std.specs.Prelude.{◌&&◌, ◌==◌, Option, Some, None, cond, slice_get, position}
-use Rattle.std.specs.List.{find, list_all}
+use Rattle.std.specs.List.{find}
 use Rattle.std.specs.Option.{option_map_or}
 use Rattle.std.specs.Str.{bytes_eq}
-use Rattle.std.proofs.lemmas.Bool.{and_from, eqb-true}
+use Rattle.std.proofs.lemmas.Bool.{and_from, and_parts, not-false, eqb-true}
 use Rattle.std.proofs.lemmas.Option.{none-some, same_Some}
 use Rattle.sequence.proofs.Bytes.{same_bytes}
 use Rattle.sequence.proofs.Each.{each_at}
-use Rattle.sequence.proofs.Passes.{list_any_place, each_from_list_all}
+use Rattle.sequence.proofs.Passes.{list_any_place}
 use Rattle.tsl_terms.specs.declared.names.NameKind.{NameKind}
 use Rattle.tsl_terms.specs.declared.names.NameKind.TheVariants.{Signal, Function, Predicate}
 use Rattle.tsl_terms.specs.Name.{Name, same_kind}
@@ -19,7 +19,6 @@ use Rattle.declared_names.specs.Occurrences.{Occurrence}
 use Rattle.declared_names.specs.Faults.{is_plain, name_of, first_plain, is_unlike_first, kind_fault_as, has_kind_fault, arity_fault_as, has_arity_fault}
 use Rattle.declared_names.specs.Faults.{is_unlike_name}
 use Rattle.declared_names.specs.WellDeclared.{occurs_plain}
-use Rattle.declared_names.proofs.UsedWell.{both, not_true}
 use Rattle.declared_names.proofs.WholeText.{nowhere}
 
 one_kind : (a b : NameKind) → same_kind a b ≡ true → a ≡ b
@@ -32,10 +31,6 @@ one_kind Function Predicate h = cc
 one_kind Predicate Signal h = cc
 one_kind Predicate Function h = cc
 one_kind Predicate Predicate h = refl
-
-not_false : (b : Bool) → not b ≡ false → b ≡ true
-not_false true h = refl
-not_false false h = sym h
 
 -- a plain occurrence with a name, a kind and a number of arguments
 record PlainAt (all : List Occurrence) (x : List ℕ) (kind : NameKind) (arity : ℕ) : Type 0 where
@@ -51,9 +46,9 @@ plain_at : (all : List Occurrence) (x : List ℕ) (kind : NameKind) (arity : ℕ
 plain_at all x kind arity h =
     let found = list_any_place (λ o. is_plain o.role && (bytes_eq x o.text && (same_kind kind o.kind && (arity == o.arity)))) all h in
     let o = found.1 in
-    let one = both (is_plain o.role) (bytes_eq x o.text && (same_kind kind o.kind && (arity == o.arity))) found.3 in
-    let two = both (bytes_eq x o.text) (same_kind kind o.kind && (arity == o.arity)) one.1 in
-    let three = both (same_kind kind o.kind) (arity == o.arity) two.1 in
+    let one = and_parts (is_plain o.role) (bytes_eq x o.text && (same_kind kind o.kind && (arity == o.arity))) found.3 in
+    let two = and_parts (bytes_eq x o.text) (same_kind kind o.kind && (arity == o.arity)) one.1 in
+    let three = and_parts (same_kind kind o.kind) (arity == o.arity) two.1 in
     record {
       place = found.0;
       o = o;
@@ -73,8 +68,8 @@ some_first p (x ∷ xs) (suc i) o at h = by (p x) (some_first p xs i o at h) whe
   by true rest = (x, refl)
   by false rest = rest
 
-like_kind : (role : Role) (o : Occurrence) (unlike : Bool) → is_plain role ≡ true → not (kind_fault_as role o unlike) ≡ true → unlike ≡ false
-like_kind Plain o unlike plain h = not_true unlike h
+like_kind : (role : Role) (o : Occurrence) (unlike : Bool) → is_plain role ≡ true → kind_fault_as role o unlike ≡ false → unlike ≡ false
+like_kind Plain o unlike plain h = h
 like_kind Parameter o unlike plain h = cc
 like_kind Head o unlike plain h = cc
 like_kind Redefined o unlike plain h = cc
@@ -82,11 +77,11 @@ like_kind Used o unlike plain h = cc
 like_kind Misused o unlike plain h = cc
 
 like_arity : (role : Role) (o : Occurrence) (others unlike : Bool) → is_plain role ≡ true → same_kind o.kind Signal ≡ false →
-    not (arity_fault_as role o others unlike) ≡ true → unlike ≡ false
+    arity_fault_as role o others unlike ≡ false → unlike ≡ false
 like_arity Plain o others unlike plain other h = by (same_kind o.kind Signal) other h where
-  by : (b : Bool) → b ≡ false → not (not b && unlike) ≡ true → unlike ≡ false
+  by : (b : Bool) → b ≡ false → (not b && unlike) ≡ false → unlike ≡ false
   by true e g = cc
-  by false e g = not_true unlike g
+  by false e g = g
 like_arity Parameter o others unlike plain other h = cc
 like_arity Head o others unlike plain other h = cc
 like_arity Redefined o others unlike plain other h = cc
@@ -97,7 +92,7 @@ first_is_alike : (alike : Name → Name → Bool) (found : Option Occurrence) (o
     option_map_or (λ first. not (alike (name_of first) (name_of o))) found false ≡ false → alike (name_of f) (name_of o) ≡ true
 first_is_alike alike None o f e h = cc
 first_is_alike alike (Some g) o f e h =
-    subst (λ k. alike (name_of k) (name_of o) ≡ true) (same_Some g f e) (not_false (alike (name_of g) (name_of o)) h)
+    subst (λ k. alike (name_of k) (name_of o) ≡ true) (same_Some g f e) (not-false (alike (name_of g) (name_of o)) h)
 
 module _ (all : List Occurrence) where
   first_of : (x : List ℕ) (kind : NameKind) (arity : ℕ) → PlainAt all x kind arity → (f : Occurrence) × (first_plain all x ≡ Some f)
@@ -112,8 +107,7 @@ module _ (all : List Occurrence) where
   module _ (kinds : position (has_kind_fault all) all ≡ None) where
     kind_of : (x : List ℕ) (kind : NameKind) (arity : ℕ) (p : PlainAt all x kind arity) (f : Occurrence) → first_plain all x ≡ Some f → f.kind ≡ kind
     kind_of x kind arity p f e =
-        let right = each_at (λ o. not (has_kind_fault all o) ≡ true) all p.place p.o
-        (each_from_list_all (λ o. not (has_kind_fault all o)) all (nowhere (has_kind_fault all) all kinds)) p.there in
+        let right = each_at (λ o. has_kind_fault all o ≡ false) all p.place p.o (nowhere (has_kind_fault all) all kinds) p.there in
         one_kind f.kind p.o.kind (first_is_alike alike_in_kind (first_plain all p.o.text) p.o f (same_first x kind arity p f e)
         (like_kind p.o.role p.o (is_unlike_first alike_in_kind all p.o) p.plain right))
         ∙ sym p.kind_is
@@ -130,8 +124,7 @@ module _ (all : List Occurrence) where
     arity_of : (x : List ℕ) (kind : NameKind) (arity : ℕ) (p : PlainAt all x kind arity) (f : Occurrence) → first_plain all x ≡ Some f →
         same_kind kind Signal ≡ false → f.arity ≡ arity
     arity_of x kind arity p f e other =
-        let right = each_at (λ o. not (has_arity_fault heads all o) ≡ true) all p.place p.o
-        (each_from_list_all (λ o. not (has_arity_fault heads all o)) all (nowhere (has_arity_fault heads all) all arities)) p.there in
+        let right = each_at (λ o. has_arity_fault heads all o ≡ false) all p.place p.o (nowhere (has_arity_fault heads all) all arities) p.there in
         eqb-true f.arity p.o.arity (first_is_alike same_arity (first_plain all p.o.text) p.o f (same_first x kind arity p f e)
         (like_arity p.o.role p.o (is_unlike_name same_arity heads p.o) (is_unlike_first same_arity all p.o) p.plain
         (ap (λ k. same_kind k Signal) (sym p.kind_is) ∙ other) right))

@@ -1,67 +1,53 @@
 -- What the sections of a text expand to, where its names are well: they use no name in a new way, and derive exactly where no
 -- use is too deep.
-use Rattle.std.proofs.Common.{◌≡◌, ℕ, zero, suc, ◌+◌, ◌<◌, ◌≤◌, Bool, true, false, not, min, List, [], ◌∷◌, ◌++◌, length, map, refl, ap, sym, ◌∙◌, subst, arith}
-use Rattle.std.specs.Prelude.{◌&&◌, Option, Some, None, option_map, flat_map, slice_get, position, if◌then◌else◌}
+use Rattle.std.proofs.Common.{◌≡◌, ℕ, zero, suc, ◌+◌, ◌≤◌, true, false, not, min, List, [], ◌∷◌, length, map, refl, sym, subst, arith}
+use Rattle.std.specs.Prelude.{Option, Some, None, flat_map, slice_get, position}
 use Rattle.std.specs.List.{list_all, AllByRecursion}
-use Rattle.std.specs.Option.{is_some}
-use Rattle.std.proofs.lemmas.Bool.{and_from}
-use Rattle.std.proofs.lemmas.List.Folds.{list_all-append}
 use Rattle.std.proofs.lemmas.Option.{none-some, same_Some}
-use Rattle.sequence.proofs.Each.{each_from_places}
+use Rattle.sequence.proofs.Each.{each_from_places, each_joined, each_map, each_flat_map, each_weaker, each_both, each_unmapped}
+use Rattle.sequence.proofs.Passes.{list_all_from_each}
 use Rattle.tsl_terms.specs.Name.{Name}
-use Rattle.tsl_terms.specs.Clashes.{with_use, first_uses}
+use Rattle.tsl_terms.specs.Clashes.{with_use}
 use Rattle.spec_syntax.specs.Syntax.{Terminal, FormulaSyntax, SectionSyntax, Definition, Declaration, the_section, the_definition, sections_among}
-use Rattle.spec_syntax.specs.Grammar.{IsFormula, AreItems, nothing, last_item, item, IsSection, braces, AreSections, no_section, section}
+use Rattle.spec_syntax.specs.Grammar.{AreItems, nothing, last_item, item, braces, AreSections}
 use Rattle.spec_syntax.specs.Grammar.{IsDefinition, equation, AreDeclarations, no_declaration, a_section, a_definition}
 use Rattle.spec_syntax.specs.Levels.{depth}
-use Rattle.spec_syntax.proofs.Written.{formula_is, formula_fits}
+use Rattle.spec_syntax.proofs.Written.{formula_fits}
 use Rattle.spec_syntax.proofs.DeclarationLaws.{sections_derive}
 use Rattle.named_formulas.specs.DefinitionView.{named_in}
 use Rattle.named_formulas.specs.Expansion.{expanded, expansion_within}
 use Rattle.named_formulas.specs.TextExpansion.{Expands}
 use Rattle.named_formulas.specs.WellUsed.{as_written, UsesWell, AreRanked}
-use Rattle.named_formulas.specs.Folds.{fold_by, number_within, depths}
+use Rattle.named_formulas.specs.Folds.{fold_by, depths}
 use Rattle.named_formulas.specs.ExpansionSizes.{number_in}
 use Rattle.named_formulas.specs.declared.sizing.TheConstants.{LEVELS_STOP}
 use Rattle.named_formulas.specs.Derivable.{Derivable, FormulaDerives, BodiesDerive}
 use Rattle.named_formulas.specs.UseLevels.{uses_at, AreWithin}
 use Rattle.named_formulas.specs.Occurrences.{Passing, Occurs, Plain, InBody}
-use Rattle.named_formulas.specs.SectionExpansion.{expanded_sections, EachFormula, SectionsUseWell, FormulasDerive}
+use Rattle.named_formulas.specs.SectionExpansion.{expanded_section, expanded_sections, EachFormula, SectionsUseWell, FormulasDerive}
 use Rattle.named_formulas.specs.internal.UseNumbers.{used_names}
 use Rattle.named_formulas.proofs.NamedLemmas.{named_at}
 use Rattle.named_formulas.proofs.NoNewUses.{no_new_use}
 use Rattle.named_formulas.proofs.LevelLaws.{expansion_derives, expansion_needs, uses_are_within, formula_is_within}
 use Rattle.named_formulas.proofs.SizeLemmas.{formula_stopped, depths_stop}
 use Rattle.named_formulas.proofs.SectionExpansion.{sections_expand, one_expansion_of_sections}
-use Rattle.declared_names.specs.Heads.{head_of, definitions_in, heads_in}
+use Rattle.declared_names.specs.Heads.{head_of, definitions_in}
 use Rattle.declared_names.specs.Occurrences.{Occurrence, of_section, of_body, formula_occurrences, section_occurrences}
-use Rattle.declared_names.specs.Occurrences.{definition_occurrences, declaration_occurrences, occurrences_behind, head_name, parameter_name, is_repeated}
+use Rattle.declared_names.specs.Occurrences.{definition_occurrences, occurrences_behind, head_name, parameter_name, is_repeated}
 use Rattle.declared_names.specs.Heads.{is_name}
 use Rattle.declared_names.specs.Faults.{deepest_level, is_deep_use, levels_for}
-use Rattle.declared_names.specs.WellDeclared.{heads_of, names_in, AreNamedWell, is_use_too_deep, AreLevels, RanksFall, IsWellDeclared, UsesFit, occurs_plain, IsPlainlyUsed}
+use Rattle.declared_names.specs.WellDeclared.{heads_of, names_in, AreNamedWell, is_use_too_deep, AreLevels, IsWellDeclared, UsesFit, occurs_plain, IsPlainlyUsed}
 use Rattle.declared_names.proofs.Ranked.{ranks_are}
 use Rattle.declared_names.proofs.WholeText.{text_well, text_ranked, text_fits, text_plain}
-use Rattle.declared_names.proofs.DeepNames.{within, other_within, names_within, body_within, both_within}
+use Rattle.declared_names.proofs.DeepNames.{IsWithin, other_within, names_within, body_within}
 
 -- ---- sections and definitions, each from a fact on all declarations
 
-sections_well : (named : List ℕ → Option Definition) (rank : List ℕ → ℕ) (below : ℕ) (ds : List Declaration) →
-    AllByRecursion (IsWellDeclared named rank below) ds → SectionsUseWell named rank below (sections_among ds)
-sections_well named rank below [] h = tt
-sections_well named rank below (the_section s ∷ ds) h = (h.0, sections_well named rank below ds h.1)
-sections_well named rank below (the_definition d ∷ ds) h = sections_well named rank below ds h.1
-
-sections_plain : (all : List Occurrence) (named : List ℕ → Option Definition) (rank : List ℕ → ℕ) (ds : List Declaration) →
-    AllByRecursion (IsPlainlyUsed all named rank) ds → EachFormula (Plain (Passing (occurs_plain all)) named rank) (sections_among ds)
-sections_plain all named rank [] h = tt
-sections_plain all named rank (the_section s ∷ ds) h = (h.0, sections_plain all named rank ds h.1)
-sections_plain all named rank (the_definition d ∷ ds) h = sections_plain all named rank ds h.1
-
-sections_fit : (heads : List Name) (levels : List ℕ) (ds : List Declaration) → AllByRecursion (UsesFit heads levels) ds →
-    EachFormula (λ f. AreWithin deepest_level (levels_for heads levels) (uses_at 0 f)) (sections_among ds)
-sections_fit heads levels [] h = tt
-sections_fit heads levels (the_section s ∷ ds) h = (h.0, sections_fit heads levels ds h.1)
-sections_fit heads levels (the_definition d ∷ ds) h = sections_fit heads levels ds h.1
+among_sections : (P : Declaration → Type 0) (Q : SectionSyntax → Type 0) → ((s : SectionSyntax) → P (the_section s) → Q s) →
+    (ds : List Declaration) → AllByRecursion P ds → AllByRecursion Q (sections_among ds)
+among_sections P Q from [] h = tt
+among_sections P Q from (the_section s ∷ ds) h = (from s h.0, among_sections P Q from ds h.1)
+among_sections P Q from (the_definition d ∷ ds) h = among_sections P Q from ds h.1
 
 body_plain : (all : List Occurrence) (named : List ℕ → Option Definition) (rank : List ℕ → ℕ) (ds : List Declaration) (i : ℕ) (d : Definition) →
     slice_get (definitions_in ds) i ≡ Some d → AllByRecursion (IsPlainlyUsed all named rank) ds →
@@ -118,17 +104,20 @@ module _ (ds : List Declaration) (well : AreNamedWell ds) where
       let at = named_at defined x d found in
       body_plain all named rank ds at.0 d at.1 plainly
 
-  formulas_occur : (fs : List FormulaSyntax) → AllByRecursion (UsesWell named rank count) fs →
-      AllByRecursion (Plain (Passing (occurs_plain all)) named rank) fs →
-      AllByRecursion (Occurs (Passing (occurs_plain all))) (map (expanded (expansion_within named count) (λ x. x)) fs)
-  formulas_occur [] uses plain = tt
-  formulas_occur (f ∷ fs) uses plain =
-      (no_new_use named rank (Passing (occurs_plain all)) ranked bodies_plain count f uses.0 plain.0, formulas_occur fs uses.1 plain.1)
+  -- the formula in which each use is replaced
+  abbrev replaced : FormulaSyntax → FormulaSyntax
+  replaced = expanded (expansion_within named count) (λ x. x)
 
-  sections_occur : (ss : List SectionSyntax) → SectionsUseWell named rank count ss →
-      EachFormula (Plain (Passing (occurs_plain all)) named rank) ss → EachFormula (Occurs (Passing (occurs_plain all))) (whole ss)
-  sections_occur [] uses plain = tt
-  sections_occur (s ∷ ss) uses plain = (formulas_occur s.formulas uses.0 plain.0, sections_occur ss uses.1 plain.1)
+  -- what follows for each of them
+  of_whole : (P Q R : FormulaSyntax → Type 0) → ((f : FormulaSyntax) → P f → Q f → R (replaced f)) → (ss : List SectionSyntax) →
+      EachFormula P ss → EachFormula Q ss → EachFormula R (whole ss)
+  of_whole P Q R from ss ps qs =
+      each_map (λ s. AllByRecursion R s.formulas) (expanded_section (expansion_within named count)) ss
+      (each_both (λ s. AllByRecursion P s.formulas) (λ s. AllByRecursion Q s.formulas) _
+      (λ s p q. each_map R replaced s.formulas (each_both P Q (λ f. R (replaced f)) from s.formulas p q)) ss ps qs)
+
+  well_used : SectionsUseWell named rank count (sections_among ds)
+  well_used = among_sections (IsWellDeclared named rank count) _ (λ s h. h) ds declared
 
   module _ {levels_left : ℕ} {xs own : List Terminal} (derived : AreDeclarations levels_left xs own ds) where
     bodies : BodiesDerive named
@@ -141,14 +130,16 @@ module _ (ds : List Declaration) (well : AreNamedWell ds) where
         (rs ≡ whole (sections_among ds)) × FormulasDerive r (whole (sections_among ds))
     sections_are r ys rs to h =
         one_expansion_of_sections named rank ranked count bodies r (sections_among ds) rs (sections_derive derived)
-        (sections_well named rank count ds declared) to h
+        well_used to h
 
     -- each name of the expanded sections is used as at some plain occurrence
     pub expanded_names : (r : ℕ) (ys : List Terminal) (rs : List SectionSyntax) → Expands (as_written named) own ys → AreSections r ys rs →
         EachFormula (Occurs (Passing (occurs_plain all))) rs
     expanded_names r ys rs to h =
         subst (EachFormula (Occurs (Passing (occurs_plain all)))) (sym (sections_are r ys rs to h).0)
-        (sections_occur (sections_among ds) (sections_well named rank count ds declared) (sections_plain all named rank ds plainly))
+        (of_whole (UsesWell named rank count) (Plain (Passing (occurs_plain all)) named rank) (Occurs (Passing (occurs_plain all)))
+        (no_new_use named rank (Passing (occurs_plain all)) ranked bodies_plain count) (sections_among ds) well_used
+        (among_sections (IsPlainlyUsed all named rank) _ (λ s h. h) ds plainly))
 
   -- ---- levels
 
@@ -179,29 +170,14 @@ module _ (ds : List Declaration) (well : AreNamedWell ds) where
         (each_from_places _ (used_names f) (λ i x at. are x)) in
         expansion_derives named (bodies derived) count f derivable deepest_level (omega (arith, stopped, same))
 
-    formulas_derive : (levels : List ℕ) → AreLevels (heads_of ds) levels defined → (fs : List FormulaSyntax) →
-        AllByRecursion (λ f. Derivable f × (depth f ≤ deepest_level)) fs →
-        AllByRecursion (λ f. AreWithin deepest_level (levels_for (heads_of ds) levels) (uses_at 0 f)) fs →
-        AllByRecursion (FormulaDerives deepest_level) (map (expanded (expansion_within named count) (λ x. x)) fs)
-    formulas_derive levels are [] derivable fit = tt
-    formulas_derive levels are (f ∷ fs) derivable fit =
-        (formula_derives levels are f derivable.0.0 derivable.0.1 fit.0, formulas_derive levels are fs derivable.1 fit.1)
-
-    sections_fit_whole : (levels : List ℕ) → AreLevels (heads_of ds) levels defined → (ss : List SectionSyntax) →
-        EachFormula (λ f. Derivable f × (depth f ≤ deepest_level)) ss →
-        EachFormula (λ f. AreWithin deepest_level (levels_for (heads_of ds) levels) (uses_at 0 f)) ss → FormulasDerive deepest_level (whole ss)
-    sections_fit_whole levels are [] derivable fit = tt
-    sections_fit_whole levels are (s ∷ ss) derivable fit =
-        (formulas_derive levels are s.formulas derivable.0 fit.0, sections_fit_whole levels are ss derivable.1 fit.1)
-
     -- where no use is too deep, the text expands, and the expansion derives within the levels
     pub expansion_fits : (levels : List ℕ) → AreLevels (heads_of ds) levels defined → position (is_deep_use (heads_of ds) levels) all ≡ None →
         (ys : List Terminal) × Expands (as_written named) own ys × AreSections deepest_level ys (whole (sections_among ds))
     expansion_fits levels are deep =
         sections_expand named rank ranked count deepest_level (sections_among ds) (sections_derive derived)
-        (sections_well named rank count ds declared)
-        (sections_fit_whole levels are (sections_among ds) (sections_derivable derived)
-        (sections_fit (heads_of ds) levels ds (text_fits ds (heads_of ds) levels well.kinds well.arities deep)))
+        well_used (of_whole (λ f. Derivable f × (depth f ≤ deepest_level)) (λ f. AreWithin deepest_level (levels_for (heads_of ds) levels) (uses_at 0 f))
+        (FormulaDerives deepest_level) (λ f d fit. formula_derives levels are f d.0 d.1 fit) (sections_among ds) (sections_derivable derived)
+        (among_sections (UsesFit (heads_of ds) levels) _ (λ s h. h) ds (text_fits ds (heads_of ds) levels well.kinds well.arities deep)))
 
     -- ---- and the reverse
 
@@ -211,46 +187,41 @@ module _ (ds : List Declaration) (well : AreNamedWell ds) where
     from_zero : {m n : ℕ} → m ≤ n → 0 + m ≤ n
     from_zero h = omega (arith, h)
 
-    formulas_within : (fs : List FormulaSyntax) → AllByRecursion (FormulaDerives deepest_level)
-        (map (expanded (expansion_within named count) (λ x. x)) fs) →
-        list_all (within needs (of_section (heads_of ds))) (flat_map (formula_occurrences (of_section (heads_of ds)) 0) fs) ≡ true
-    formulas_within [] derive = refl
-    formulas_within (f ∷ fs) derive =
-        both_within needs (of_section (heads_of ds)) (formula_occurrences (of_section (heads_of ds)) 0 f)
-        (flat_map (formula_occurrences (of_section (heads_of ds)) 0) fs)
-        (names_within needs (of_section (heads_of ds)) 0 f
-        (uses_are_within deepest_level needs 0 f (from_zero (expansion_needs named (bodies derived) count f deepest_level derive.0))))
-        (formulas_within fs derive.1)
+    abbrev heads : List Name
+    heads = heads_of ds
 
-    parameters_within : (is_defined is_twice : List ℕ → Bool) (ps : List (List ℕ)) →
-        list_all (within needs (of_section (heads_of ds))) (map (parameter_name is_defined is_twice) ps) ≡ true
-    parameters_within is_defined is_twice [] = refl
-    parameters_within is_defined is_twice (p ∷ ps) =
-        and_from (within needs (of_section (heads_of ds)) (parameter_name is_defined is_twice p))
-        (list_all (within needs (of_section (heads_of ds))) (map (parameter_name is_defined is_twice) ps))
-        (outside (parameter_name is_defined is_twice p) refl) (parameters_within is_defined is_twice ps)
-      where
-        outside : (o : Occurrence) → o.in_section ≡ false → within needs (of_section (heads_of ds)) o ≡ true
-        outside o e = other_within needs (of_body (heads_of ds) []) refl o e
+    abbrev Within : Occurrence → Type 0
+    Within = IsWithin needs (of_section heads)
+
+    formulas_within : (fs : List FormulaSyntax) → AllByRecursion (FormulaDerives deepest_level) (map replaced fs) →
+        AllByRecursion Within (flat_map (formula_occurrences (of_section heads) 0) fs)
+    formulas_within fs derive =
+        each_flat_map Within (formula_occurrences (of_section heads) 0) fs
+        (each_weaker (λ f. FormulaDerives deepest_level (replaced f)) (λ f. AllByRecursion Within (formula_occurrences (of_section heads) 0 f))
+        (λ f d. names_within needs (of_section heads) 0 f
+        (uses_are_within deepest_level needs 0 f (from_zero (expansion_needs named (bodies derived) count f deepest_level d))))
+        fs (each_unmapped (FormulaDerives deepest_level) replaced fs derive))
+
+    in_head_within : (o : Occurrence) → o.in_section ≡ false → Within o
+    in_head_within o e = other_within needs (of_section heads) o e
 
     declarations_within : (before : List Name) (es : List Declaration) → FormulasDerive deepest_level (whole (sections_among es)) →
-        list_all (within needs (of_section (heads_of ds))) (occurrences_behind (heads_of ds) before es) ≡ true
-    declarations_within before [] derive = refl
+        AllByRecursion Within (occurrences_behind heads before es)
+    declarations_within before [] derive = tt
     declarations_within before (the_section s ∷ es) derive =
-        both_within needs (of_section (heads_of ds)) (section_occurrences (heads_of ds) s) (occurrences_behind (heads_of ds) before es)
-        (formulas_within s.formulas derive.0) (declarations_within before es derive.1)
+        each_joined Within (section_occurrences heads s) (occurrences_behind heads before es) (formulas_within s.formulas derive.0)
+        (declarations_within before es derive.1)
     declarations_within before (the_definition d ∷ es) derive =
-        let heads = heads_of ds in
-        let parameters = map (parameter_name (is_name heads) (is_repeated d.parameters)) d.parameters in
-        let body = formula_occurrences (of_body heads d.parameters) 0 d.body in
-        both_within needs (of_section heads) (definition_occurrences heads before d) (occurrences_behind heads (with_use before (head_of d)) es)
-        (and_from (within needs (of_section heads) (head_name before d)) (list_all (within needs (of_section heads)) (parameters ++ body))
-        (other_within needs (of_body heads []) refl (head_name before d) refl)
-        (both_within needs (of_section heads) parameters body (parameters_within (is_name heads) (is_repeated d.parameters) d.parameters)
-        (body_within needs (of_body heads d.parameters) refl 0 d.body)))
-        (declarations_within (with_use before (head_of d)) es derive)
+        let named_parameter = parameter_name (is_name heads) (is_repeated d.parameters) in
+        each_joined Within (definition_occurrences heads before d) (occurrences_behind heads (with_use before (head_of d)) es) (
+          in_head_within (head_name before d) refl,
+          each_joined Within (map named_parameter d.parameters) (formula_occurrences (of_body heads d.parameters) 0 d.body)
+              (each_map Within named_parameter d.parameters
+              (each_from_places _ d.parameters (λ i p at. in_head_within (named_parameter p) refl)))
+              (body_within needs (of_body heads d.parameters) refl 0 d.body),
+        ) (declarations_within (with_use before (head_of d)) es derive)
 
     -- where what the text expands to derives within the levels, no use is too deep
     pub no_deep_use : (ys : List Terminal) (rs : List SectionSyntax) → Expands (as_written named) own ys → AreSections deepest_level ys rs →
         list_all (λ o. not (is_use_too_deep defined o)) all ≡ true
-    no_deep_use ys rs to h = declarations_within [] ds (sections_are derived deepest_level ys rs to h).1
+    no_deep_use ys rs to h = list_all_from_each _ all (declarations_within [] ds (sections_are derived deepest_level ys rs to h).1)

@@ -1,15 +1,17 @@
 -- Definitions that have an order reach not themselves, and each has its place among the names of the text.
-use Rattle.std.proofs.Common.{◌≡◌, ℕ, zero, suc, ◌<◌, Bool, true, false, not, List, [], ◌∷◌, ◌++◌, map, refl, ap, sym, ◌∙◌, subst, arith}
-use Rattle.std.specs.Prelude.{◌&&◌, ◌||◌, Option, Some, None, flat_map, position, slice_get, IsTrue, if◌then◌else◌}
-use Rattle.std.specs.List.{list_all, list_any}
+use Rattle.std.proofs.Common.{◌≡◌, ℕ, zero, suc, ◌<◌, Bool, true, false, List, [], ◌∷◌, ◌++◌, refl, ap, sym, ◌∙◌, subst, arith}
+use Rattle.std.specs.Prelude.{◌&&◌, Option, Some, None, position, slice_get, IsTrue, if◌then◌else◌}
+use Rattle.std.specs.List.{list_any, AllByRecursion}
 use Rattle.std.specs.Option.{is_some}
 use Rattle.std.specs.Str.{bytes_eq}
+use Rattle.std.proofs.lemmas.Bool.{and_parts, or_left, or_right}
 use Rattle.std.proofs.lemmas.Iterator.Adapters.{position_from-zero}
 use Rattle.std.proofs.lemmas.List.Folds.{list_any-append}
 use Rattle.std.proofs.lemmas.Option.{none-some, same_Some}
 use Rattle.sequence.proofs.Bytes.{bytes_same}
 use Rattle.sequence.proofs.Numbers.{among_place}
-use Rattle.sequence.proofs.Passes.{list_all_parts}
+use Rattle.sequence.proofs.Each.{each_left, each_right}
+use Rattle.sequence.proofs.Options.{some_is}
 use Rattle.tsl_terms.specs.Name.{Name}
 use Rattle.tsl_terms.specs.Clashes.{with_use}
 use Rattle.spec_syntax.specs.Syntax.{Definition, Declaration, the_section, the_definition}
@@ -17,15 +19,13 @@ use Rattle.named_formulas.specs.DefinitionView.{named_in}
 use Rattle.named_formulas.specs.Reaching.{Reaches, one, more, Using}
 use Rattle.named_formulas.specs.Uses.{uses_of, IsOrder}
 use Rattle.named_formulas.proofs.NamedLemmas.{AreApart, named_at}
-use Rattle.declared_names.specs.declared.occurrence.Role.{Role}
 use Rattle.declared_names.specs.declared.occurrence.Role.TheVariants.{Head, Redefined}
 use Rattle.declared_names.specs.Heads.{head_of, is_name, definitions_in}
-use Rattle.declared_names.specs.Occurrences.{Occurrence, of_body, formula_occurrences, section_occurrences, head_name, parameter_name, is_repeated}
+use Rattle.declared_names.specs.Occurrences.{Occurrence, section_occurrences, head_name}
 use Rattle.declared_names.specs.Occurrences.{definition_occurrences, occurrences_behind, occurrences}
 use Rattle.declared_names.specs.Faults.{is_redefined, is_head, is_head_of}
 use Rattle.declared_names.specs.WellDeclared.{NoneOnCycle, names_in}
-use Rattle.declared_names.proofs.UsedWell.{both}
-use Rattle.declared_names.proofs.WholeText.{nowhere, stands}
+use Rattle.declared_names.proofs.WholeText.{nowhere, Stands}
 use Rattle.declared_names.proofs.NameTests.{any_from}
 use Rattle.declared_names.proofs.Ranked.{definitions_apart}
 
@@ -45,19 +45,13 @@ module _ (ds : List Definition) (order : List ℕ) (is_order : IsOrder ds order)
     here : slice_get ds index ≡ Some definition
     name_is : definition.name ≡ y
 
-  uses_parts : (x y : List ℕ) (b : Bool) → (b && is_some (named y)) ≡ true → is_some (named y) ≡ true
-  uses_parts x y true h = h
-  uses_parts x y false h = cc
-
   used_before : (p i : ℕ) (d : Definition) (y : List ℕ) → slice_get order p ≡ Some i → slice_get ds i ≡ Some d →
       IsTrue (uses_of named d.name y) → StandsBefore p y
-  used_before p i d y at_p at_i h = by (named y) refl (uses_parts d.name y _ h) where
-    by : (o : Option Definition) → named y ≡ o → is_some o ≡ true → StandsBefore p y
-    by None e g = cc
-    by (Some f) e g =
-        let at = named_at ds y f e in
-        let q = is_order.earlier p i at.0 d f at_p at_i at.1 (subst (λ z. IsTrue (uses_of named d.name z)) (sym at.2) h) in
-        record { place = q.0; index = at.0; definition = f; before = q.1; stands_there = q.2; here = at.1; name_is = at.2 }
+  used_before p i d y at_p at_i h =
+      let f = some_is (named y) (and_parts _ _ h).1 in
+      let at = named_at ds y f.0 f.1 in
+      let q = is_order.earlier p i at.0 d f.0 at_p at_i at.1 (subst (λ z. IsTrue (uses_of named d.name z)) (sym at.2) h) in
+      record { place = q.0; index = at.0; definition = f.0; before = q.1; stands_there = q.2; here = at.1; name_is = at.2 }
 
   reached_before : (p i : ℕ) (d : Definition) (x y : List ℕ) → d.name ≡ x → slice_get order p ≡ Some i → slice_get ds i ≡ Some d →
       Reaches (Using (uses_of named)) x y → StandsBefore p y
@@ -90,56 +84,39 @@ ordered_are_acyclic ds order once is_order = none_on_cycle (definitions_in ds) o
 
 -- ---- the place of a head
 
-any_left : (a b : Bool) → a ≡ true → (a || b) ≡ true
-any_left true b h = refl
-any_left false b h = cc
-
-any_right : (a b : Bool) → b ≡ true → (a || b) ≡ true
-any_right true b h = refl
-any_right false b h = h
-
 in_front : (p : Occurrence → Bool) (xs ys : List Occurrence) → list_any p xs ≡ true → list_any p (xs ++ ys) ≡ true
-in_front p xs ys h = list_any-append p xs ys ∙ any_left (list_any p xs) (list_any p ys) h
+in_front p xs ys h = list_any-append p xs ys ∙ or_left (list_any p xs) (list_any p ys) h
 
 in_back : (p : Occurrence → Bool) (xs ys : List Occurrence) → list_any p ys ≡ true → list_any p (xs ++ ys) ≡ true
-in_back p xs ys h = list_any-append p xs ys ∙ any_right (list_any p xs) (list_any p ys) h
+in_back p xs ys h = list_any-append p xs ys ∙ or_right (list_any p xs) (list_any p ys) h
 
-head_is : (x : List ℕ) (d : Definition) (b : Bool) → x ≡ d.name → not (is_redefined (if b then Redefined else Head)) ≡ true →
+head_is : (x : List ℕ) (d : Definition) (b : Bool) → x ≡ d.name → is_redefined (if b then Redefined else Head) ≡ false →
     (is_head (if b then Redefined else Head) && bytes_eq x d.name) ≡ true
 head_is x d true same h = cc
 head_is x d false same h = bytes_same x d.name same
 
 head_stands : (x : List ℕ) (heads before : List Name) (ds : List Declaration) (i : ℕ) (d : Definition) →
-    slice_get (definitions_in ds) i ≡ Some d → x ≡ d.name → list_all stands (occurrences_behind heads before ds) ≡ true →
+    slice_get (definitions_in ds) i ≡ Some d → x ≡ d.name → AllByRecursion Stands (occurrences_behind heads before ds) →
     list_any (is_head_of x) (occurrences_behind heads before ds) ≡ true
 head_stands x heads before [] i d at same h = absurd (none-some d at)
 head_stands x heads before (the_section s ∷ ds) i d at same h =
     let own = section_occurrences heads s in
     let rest = occurrences_behind heads before ds in
-    in_back (is_head_of x) own rest (head_stands x heads before ds i d at same (list_all_parts stands own rest h).1)
+    in_back (is_head_of x) own rest (head_stands x heads before ds i d at same (each_right Stands own rest h))
 head_stands x heads before (the_definition e ∷ ds) zero d at same h =
     let own = definition_occurrences heads before e in
     let rest = occurrences_behind heads (with_use before (head_of e)) ds in
-    let first = both (stands (head_name before e)) _ (list_all_parts stands own rest h).0 in
     in_front (is_head_of x) own rest
-    (any_left (is_head_of x (head_name before e)) _
-    (head_is x e (is_name before e.name) (same ∙ ap (λ (f : Definition). f.name) (sym (same_Some e d at))) first.0))
+    (or_left (is_head_of x (head_name before e)) _
+    (head_is x e (is_name before e.name) (same ∙ ap (λ (f : Definition). f.name) (sym (same_Some e d at))) (each_left Stands own rest h).0))
 head_stands x heads before (the_definition e ∷ ds) (suc i) d at same h =
     let own = definition_occurrences heads before e in
     let rest = occurrences_behind heads (with_use before (head_of e)) ds in
     in_back (is_head_of x) own rest
-    (head_stands x heads (with_use before (head_of e)) ds i d at same (list_all_parts stands own rest h).1)
+    (head_stands x heads (with_use before (head_of e)) ds i d at same (each_right Stands own rest h))
 
 some_place : (p : Occurrence → Bool) (xs : List Occurrence) → list_any p xs ≡ true → (at : ℕ) × (position p xs ≡ Some at)
-some_place p xs h = by (position p xs) refl where
-  is_there : is_some (position p xs) ≡ true
-  is_there = ap is_some (position_from-zero p xs) ∙ any_from p 0 xs ∙ h
-
-  by : (o : Option ℕ) → position p xs ≡ o → (at : ℕ) × (position p xs ≡ Some at)
-  by None e =
-      let never : false ≡ true = ap is_some (sym e) ∙ is_there in
-      cc
-  by (Some at) e = (at, e)
+some_place p xs h = some_is (position p xs) (ap is_some (position_from-zero p xs) ∙ any_from p 0 xs ∙ h)
 
 -- each definition is defined at some place of the text
 pub head_place : (ds : List Declaration) (heads : List Name) → position (λ o. is_redefined o.role) (occurrences heads ds) ≡ None →

@@ -3,6 +3,7 @@ pub mod NameTests
 pub mod Walks
 pub mod FirstPlain
 pub mod Bounds
+pub mod EachName
 pub mod UsedWell
 pub mod DeepUses
 pub mod PlainUses

@@ -5,6 +5,7 @@ use Rattle.std.specs.List.{list_any, position_from}
 use Rattle.std.specs.Option.{is_some}
 use Rattle.std.specs.Str.{bytes_eq}
 use Rattle.std.specs.Borrow.{Bor}
+use Rattle.std.proofs.Math.Bool.{or-false, or-true}
 use Rattle.std.proofs.lemmas.Iterator.Adapters.{position_from-zero}
 use Rattle.std.proofs.lemmas.List.{map_push, take_more}
 use Rattle.std.proofs.lemmas.List.Folds.{list_any-append}
@@ -26,20 +27,8 @@ any_from p i (x ∷ xs) = by (p x) (any_from p (i + 1) xs) where
 pub is_name_any : (names : List Name) (x : List ℕ) → is_name names x ≡ is_among (texts names) x
 is_name_any names x = ap is_some (position_from-zero (bytes_eq x) (texts names)) ∙ any_from (bytes_eq x) 0 (texts names)
 
-or_false : (b : Bool) → (b || false) ≡ b
-or_false true = refl
-or_false false = refl
-
-or_true : (b : Bool) → (b || true) ≡ true
-or_true true = refl
-or_true false = refl
-
-and_false : (b : Bool) → (b && false) ≡ false
-and_false true = refl
-and_false false = refl
-
 pub among_pushed : (xs : List (List ℕ)) (y x : List ℕ) → is_among (xs ++ y ∷ []) x ≡ (is_among xs x || bytes_eq x y)
-among_pushed xs y x = list_any-append (bytes_eq x) xs (y ∷ []) ∙ ap (λ b. is_among xs x || b) (or_false (bytes_eq x y))
+among_pushed xs y x = list_any-append (bytes_eq x) xs (y ∷ []) ∙ ap (λ b. is_among xs x || b) (or-false (bytes_eq x y))
 
 name_pushed : (names : List Name) (n : Name) (x : List ℕ) → is_name (names ++ n ∷ []) x ≡ (is_name names x || bytes_eq x n.text)
 name_pushed names n x =
@@ -50,8 +39,8 @@ name_pushed names n x =
 pub known : (names : List Name) (p x : List ℕ) → is_name names p ≡ true → is_name names x ≡ (is_name names x || bytes_eq x p)
 known names p x h = by (bytes_eq x p) refl where
   by : (b : Bool) → bytes_eq x p ≡ b → is_name names x ≡ (is_name names x || b)
-  by false e = sym (or_false (is_name names x))
-  by true e = ap (is_name names) (same_bytes x p e) ∙ h ∙ sym (or_true (is_name names x))
+  by false e = sym (or-false (is_name names x))
+  by true e = ap (is_name names) (same_bytes x p e) ∙ h ∙ sym (or-true (is_name names x))
 
 name_added_as : (names : List Name) (n : Name) (x : List ℕ) (found : Option ℕ) → number_of names n.text ≡ found →
     is_name (added_unless_found names n found) x ≡ (is_name names x || bytes_eq x n.text)

@@ -4,10 +4,12 @@ use Rattle.std.specs.Prelude.{◌&&◌, ◌||◌, ◌==◌, Option, Some, None, 
 use Rattle.std.specs.List.{list_all, AllByRecursion}
 use Rattle.std.specs.Option.{is_some}
 use Rattle.std.specs.Str.{bytes_eq}
+use Rattle.std.specs.Cmp.Derive.{both_true}
+use Rattle.std.proofs.lemmas.Bool.{or_right}
 use Rattle.sequence.proofs.Booleans.{eqb_self}
 use Rattle.sequence.proofs.Bytes.{same_bytes, bytes_same}
-use Rattle.sequence.proofs.Each.{each_from_places, each_left, each_right, each_joined}
-use Rattle.sequence.proofs.Passes.{list_all_parts, list_any_contained, each_from_list_all}
+use Rattle.sequence.proofs.Each.{each_from_places, each_left, each_right, each_both}
+use Rattle.sequence.proofs.Passes.{list_any_contained}
 use Rattle.sequence.proofs.Places.{contains_at}
 use Rattle.tsl_terms.specs.declared.names.NameKind.{NameKind}
 use Rattle.tsl_terms.specs.declared.names.NameKind.TheVariants.{Signal, Function, Predicate}
@@ -16,7 +18,6 @@ use Rattle.tsl_terms.specs.Clashes.{alike_in_kind}
 use Rattle.spec_syntax.specs.Syntax.{TermSyntax, alone, applied, grouped_term, TermsSyntax, no_terms, more_terms}
 use Rattle.spec_syntax.specs.Syntax.{FormulaSyntax, truth, falsehood, bare, tested, updated, grouped, under, between}
 use Rattle.spec_syntax.specs.Syntax.{joined, FormulasSyntax, no_formulas, more_formulas, Definition}
-use Rattle.named_formulas.specs.Expansion.{passed_names}
 use Rattle.named_formulas.specs.Occurrences.{NameUses, Passing, count_of, TermOccurs, TermsOccur, Plain, MembersPlain, InBody}
 use Rattle.named_formulas.specs.Reaching.{Among, first, later}
 use Rattle.named_formulas.specs.UseLevels.{level_of_right}
@@ -27,92 +28,66 @@ use Rattle.declared_names.specs.Occurrences.{Occurrence, Scope, of_section, of_b
 use Rattle.declared_names.specs.Occurrences.{term_occurrences, terms_occurrences, formula_occurrences, members_occurrences}
 use Rattle.declared_names.specs.Faults.{is_plain, kind_fault_as, is_unlike_first, has_kind_fault, name_with}
 use Rattle.declared_names.specs.WellDeclared.{is_used_well, occurs_plain}
-use Rattle.declared_names.proofs.UsedWell.{both, free_name}
+use Rattle.declared_names.proofs.EachName.{each_name}
+use Rattle.declared_names.proofs.UsedWell.{free_name}
 
 same_kind_self : (kind : NameKind) → same_kind kind kind ≡ true
 same_kind_self Signal = refl
 same_kind_self Function = refl
 same_kind_self Predicate = refl
 
-all_true : (a b c d : Bool) → a ≡ true → b ≡ true → c ≡ true → d ≡ true → (a && (b && (c && d))) ≡ true
-all_true true true true true h i j k = refl
-all_true false b c d h i j k = h
-all_true true false c d h i j k = i
-all_true true true false d h i j k = j
-all_true true true true false h i j k = k
-
 -- each plain occurrence of a text occurs so
 pub plain_there : (all : List Occurrence) → AllByRecursion (λ o. is_plain o.role ≡ true → occurs_plain all o.text o.kind o.arity ≡ true) all
 plain_there all = each_from_places (λ o. is_plain o.role ≡ true → occurs_plain all o.text o.kind o.arity ≡ true) all (λ i o there plain.
     list_any_contained (λ p. is_plain p.role && (bytes_eq o.text p.text && (same_kind o.kind p.kind && (o.arity == p.arity)))) all o
     (contains_at all i o there)
-    (all_true (is_plain o.role) (bytes_eq o.text o.text) (same_kind o.kind o.kind) (o.arity == o.arity) plain (bytes_same o.text o.text refl)
-    (same_kind_self o.kind) (eqb_self o.arity)))
-
-each_both : {X : Type 0} {P Q R : X → Type 0} → ((x : X) → P x → Q x → R x) → (xs : List X) → AllByRecursion P xs → AllByRecursion Q xs →
-    AllByRecursion R xs
-each_both f [] p q = tt
-each_both f (x ∷ xs) p q = (f x p.0 q.0, each_both f xs p.1 q.1)
+    (both_true plain (both_true (bytes_same o.text o.text refl) (both_true (same_kind_self o.kind) (eqb_self o.arity)))))
 
 module _ (named : List ℕ → Option Definition) (rank : List ℕ → ℕ) (heads : List Name) (s : Scope) (same : (x : List ℕ) → s.is_defined x ≡ is_some (named x)) (arities : (x : List ℕ) → name_with heads x ≡ option_map head_of (named x)) where
-  -- what is not defined is such
+  -- a name is used well, and is such where it is not defined
   abbrev pub Fits : NameUses → Occurrence → Type 0
-  Fits Q o = named o.text ≡ None → Q o.text o.kind o.arity
+  Fits Q o = (named o.text ≡ None → Q o.text o.kind o.arity) × (is_used_well heads o ≡ true)
 
   module _ (Q : NameUses) where
-    mutual
-      term_occurs : (level : ℕ) (t : TermSyntax) → AllByRecursion (Fits Q) (term_occurrences s level t) →
-          list_all (is_used_well heads) (term_occurrences s level t) ≡ true → TermOccurs Q t
-      term_occurs level (alone x) each well =
-          each.0 (free_name named rank heads s same arities x _ (both (is_used_well heads (occurrence s level (role_in s x) Signal 0 x)) true well).0)
-      term_occurs level (applied f ts) each well =
-          let parts = both (is_used_well heads (occurrence s level (role_in s f) Function (count_of ts) f))
-          (list_all (is_used_well heads) (terms_occurrences s level ts)) well in
-          (each.0 (free_name named rank heads s same arities f _ parts.0), terms_occur level ts each.1 parts.1)
-      term_occurs level (grouped_term t) each well = term_occurs level t each well
-
-      terms_occur : (level : ℕ) (ts : TermsSyntax) → AllByRecursion (Fits Q) (terms_occurrences s level ts) →
-          list_all (is_used_well heads) (terms_occurrences s level ts) ≡ true → TermsOccur Q ts
-      terms_occur level no_terms each well = tt
-      terms_occur level (more_terms t ts) each well =
-          let parts = list_all_parts (is_used_well heads) (term_occurrences s level t) (terms_occurrences s level ts) well in (
-            term_occurs level t (each_left (Fits Q) (term_occurrences s level t) (terms_occurrences s level ts) each) parts.0,
-            terms_occur level ts (each_right (Fits Q) (term_occurrences s level t) (terms_occurrences s level ts) each) parts.1,
-          )
+    -- a name in a place where no use stands
+    free_fits : (x : List ℕ) (kind : NameKind) (n level : ℕ) → Fits Q (occurrence s level (role_in s x) kind n x) → Q x kind n
+    free_fits x kind n level h = h.0 (free_name named rank heads s same arities x _ h.1)
 
     mutual
-      pub plain_from : (level : ℕ) (a : FormulaSyntax) → AllByRecursion (Fits Q) (formula_occurrences s level a) →
-          list_all (is_used_well heads) (formula_occurrences s level a) ≡ true → Plain Q named rank a
-      plain_from level truth each well = tt
-      plain_from level falsehood each well = tt
-      plain_from level (bare x) each well = each.0
-      plain_from level (tested p ts) each well =
-          let parts = both (is_used_well heads (occurrence s level (atom_role s p (passed_names ts)) Predicate (count_of ts) p))
-          (list_all (is_used_well heads) (terms_occurrences s level ts)) well in
-          (each.0, terms_occur level ts each.1 parts.1)
-      plain_from level (updated x t) each well =
-          let parts = both (is_used_well heads (occurrence s level (role_in s x) Signal 0 x))
-          (list_all (is_used_well heads) (term_occurrences s level t)) well in
-          (each.0 (free_name named rank heads s same arities x _ parts.0), term_occurs level t each.1 parts.1)
-      plain_from level (grouped a) each well = plain_from (suc level) a each well
-      plain_from level (under op a) each well = plain_from (suc level) a each well
-      plain_from level (between op a b) each well =
+      term_occurs : (level : ℕ) (t : TermSyntax) → AllByRecursion (Fits Q) (term_occurrences s level t) → TermOccurs Q t
+      term_occurs level (alone x) h = free_fits x Signal 0 level h.0
+      term_occurs level (applied f ts) h = (free_fits f Function (count_of ts) level h.0, terms_occur level ts h.1)
+      term_occurs level (grouped_term t) h = term_occurs level t h
+
+      terms_occur : (level : ℕ) (ts : TermsSyntax) → AllByRecursion (Fits Q) (terms_occurrences s level ts) → TermsOccur Q ts
+      terms_occur level no_terms h = tt
+      terms_occur level (more_terms t ts) h = (
+        term_occurs level t (each_left (Fits Q) (term_occurrences s level t) (terms_occurrences s level ts) h),
+        terms_occur level ts (each_right (Fits Q) (term_occurrences s level t) (terms_occurrences s level ts) h),
+      )
+
+    mutual
+      pub plain_from : (level : ℕ) (a : FormulaSyntax) → AllByRecursion (Fits Q) (formula_occurrences s level a) → Plain Q named rank a
+      plain_from level truth h = tt
+      plain_from level falsehood h = tt
+      plain_from level (bare x) h = h.0.0
+      plain_from level (tested p ts) h = (h.0.0, terms_occur level ts h.1)
+      plain_from level (updated x t) h = (free_fits x Signal 0 level h.0, term_occurs level t h.1)
+      plain_from level (grouped a) h = plain_from (suc level) a h
+      plain_from level (under op a) h = plain_from (suc level) a h
+      plain_from level (between op a b) h =
           let left = formula_occurrences s level a in
           let right = formula_occurrences s (level_of_right op level) b in
-          let parts = list_all_parts (is_used_well heads) left right well in (
-            plain_from level a (each_left (Fits Q) left right each) parts.0,
-            plain_from (level_of_right op level) b (each_right (Fits Q) left right each) parts.1,
-          )
-      plain_from level (joined op fs) each well = members_plain level fs each well
+          (plain_from level a (each_left (Fits Q) left right h), plain_from (level_of_right op level) b (each_right (Fits Q) left right h))
+      plain_from level (joined op fs) h = members_plain level fs h
 
       members_plain : (level : ℕ) (fs : FormulasSyntax) → AllByRecursion (Fits Q) (members_occurrences s level fs) →
-          list_all (is_used_well heads) (members_occurrences s level fs) ≡ true → MembersPlain Q named rank fs
-      members_plain level no_formulas each well = tt
-      members_plain level (more_formulas f fs) each well =
+          MembersPlain Q named rank fs
+      members_plain level no_formulas h = tt
+      members_plain level (more_formulas f fs) h =
           let left = formula_occurrences s level f in
           let right = members_occurrences s level fs in
-          let parts = list_all_parts (is_used_well heads) left right well in
-          (plain_from level f (each_left (Fits Q) left right each) parts.0, members_plain level fs (each_right (Fits Q) left right each) parts.1)
+          (plain_from level f (each_left (Fits Q) left right h), members_plain level fs (each_right (Fits Q) left right h))
 
   -- ---- the role of a name that is not defined, and signals have no arguments
 
@@ -130,35 +105,13 @@ module _ (named : List ℕ → Option Definition) (rank : List ℕ → ℕ) (hea
   abbrev pub IsPlaced : Occurrence → Type 0
   IsPlaced o = (named o.text ≡ None → o.role ≡ free_role o.text) × (o.kind ≡ Signal → o.arity ≡ 0)
 
-  mutual
-    term_placed : (level : ℕ) (t : TermSyntax) → AllByRecursion IsPlaced (term_occurrences s level t)
-    term_placed level (alone x) = ((role_free x, λ e. refl), tt)
-    term_placed level (applied f ts) = ((role_free f, λ e. cc), terms_placed level ts)
-    term_placed level (grouped_term t) = term_placed level t
-
-    terms_placed : (level : ℕ) (ts : TermsSyntax) → AllByRecursion IsPlaced (terms_occurrences s level ts)
-    terms_placed level no_terms = tt
-    terms_placed level (more_terms t ts) =
-        each_joined IsPlaced (term_occurrences s level t) (terms_occurrences s level ts) (term_placed level t) (terms_placed level ts)
-
-  mutual
-    pub placed : (level : ℕ) (a : FormulaSyntax) → AllByRecursion IsPlaced (formula_occurrences s level a)
-    placed level truth = tt
-    placed level falsehood = tt
-    placed level (bare x) = ((atom_free x (Some []), λ e. refl), tt)
-    placed level (tested p ts) = ((atom_free p (passed_names ts), λ e. cc), terms_placed level ts)
-    placed level (updated x t) = ((role_free x, λ e. refl), term_placed level t)
-    placed level (grouped a) = placed (suc level) a
-    placed level (under op a) = placed (suc level) a
-    placed level (between op a b) =
-        each_joined IsPlaced (formula_occurrences s level a) (formula_occurrences s (level_of_right op level) b) (placed level a)
-        (placed (level_of_right op level) b)
-    placed level (joined op fs) = members_placed level fs
-
-    members_placed : (level : ℕ) (fs : FormulasSyntax) → AllByRecursion IsPlaced (members_occurrences s level fs)
-    members_placed level no_formulas = tt
-    members_placed level (more_formulas f fs) =
-        each_joined IsPlaced (formula_occurrences s level f) (members_occurrences s level fs) (placed level f) (members_placed level fs)
+  pub placed : (a : FormulaSyntax) → AllByRecursion IsPlaced (formula_occurrences s 0 a)
+  placed = each_name s IsPlaced (record {
+    signal = λ l x. (role_free x, λ e. refl);
+    function = λ l n f. (role_free f, λ e. cc);
+    atom = λ l x u. (atom_free x (Some []), λ e. refl);
+    test = λ l n p names us. (atom_free p names, λ e. cc);
+  }) 0
 
 -- ---- sections and bodies
 
@@ -172,12 +125,9 @@ among_from x (p ∷ ps) h = by (among_from x ps) (bytes_eq x p) refl h where
 among_is : (x : List ℕ) (ps : List (List ℕ)) → Among x ps → is_among ps x ≡ true
 among_is x [] h = elim h [ ]
 among_is x (p ∷ ps) first = ap (λ b. b || is_among ps x) (bytes_same x x refl)
-among_is x (p ∷ ps) (later h) = by (bytes_eq x p) (among_is x ps h) where
-  by : (b : Bool) → is_among ps x ≡ true → (b || is_among ps x) ≡ true
-  by true g = refl
-  by false g = g
+among_is x (p ∷ ps) (later h) = or_right (bytes_eq x p) (is_among ps x) (among_is x ps h)
 
-signal_is : (kind : NameKind) → not (not (same_kind kind Signal)) ≡ true → kind ≡ Signal
+signal_is : (kind : NameKind) → not (same_kind kind Signal) ≡ false → kind ≡ Signal
 signal_is Signal h = refl
 signal_is Function h = cc
 signal_is Predicate h = cc
@@ -186,38 +136,39 @@ signal_is Predicate h = cc
 abbrev pub Occurs : List Occurrence → Occurrence → Type 0
 Occurs all o = is_plain o.role ≡ true → occurs_plain all o.text o.kind o.arity ≡ true
 
-module _ (named : List ℕ → Option Definition) (rank : List ℕ → ℕ) (heads : List Name) (same : (x : List ℕ) → is_name heads x ≡ is_some (named x)) (arities : (x : List ℕ) → name_with heads x ≡ option_map head_of (named x)) (all : List Occurrence) where
-  pub section_plain : (a : FormulaSyntax) → AllByRecursion (Occurs all) (formula_occurrences (of_section heads) 0 a) →
-      list_all (is_used_well heads) (formula_occurrences (of_section heads) 0 a) ≡ true → Plain (Passing (occurs_plain all)) named rank a
-  section_plain a each well =
-      plain_from named rank heads (of_section heads) same arities (Passing (occurs_plain all)) 0 a
-      (each_both {R = Fits named rank heads (of_section heads) same arities (Passing (occurs_plain all))}
-      (λ o occurs is e. occurs (ap is_plain (is.0 e))) (formula_occurrences (of_section heads) 0 a) each
-      (placed named rank heads (of_section heads) same arities 0 a))
-      well
+-- a name is used well, has no fault of its kind, and where it is plain occurs so
+pub record IsRight (heads : List Name) (all : List Occurrence) (o : Occurrence) : Type 0 where
+  pub well : is_used_well heads o ≡ true
+  pub kind : has_kind_fault all o ≡ false
+  pub occurs : Occurs all o
 
-  body_fits : (ps : List (List ℕ)) (o : Occurrence) → Occurs all o → not (has_kind_fault all o) ≡ true →
+module _ (named : List ℕ → Option Definition) (rank : List ℕ → ℕ) (heads : List Name) (same : (x : List ℕ) → is_name heads x ≡ is_some (named x)) (arities : (x : List ℕ) → name_with heads x ≡ option_map head_of (named x)) (all : List Occurrence) where
+  pub section_plain : (a : FormulaSyntax) → AllByRecursion (IsRight heads all) (formula_occurrences (of_section heads) 0 a) →
+      Plain (Passing (occurs_plain all)) named rank a
+  section_plain a each =
+      let s = of_section heads in
+      plain_from named rank heads s same arities (Passing (occurs_plain all)) 0 a
+      (each_both (IsRight heads all) (IsPlaced named rank heads s same arities) (Fits named rank heads s same arities (Passing (occurs_plain all)))
+      (λ o right is. ((λ e. right.occurs (ap is_plain (is.0 e))), right.well)) (formula_occurrences s 0 a) each
+      (placed named rank heads s same arities a))
+
+  body_fits : (ps : List (List ℕ)) (o : Occurrence) → IsRight heads all o →
       IsPlaced named rank heads (of_body heads ps) same arities o → named o.text ≡ None → InBody (Passing (occurs_plain all)) ps o.text o.kind o.arity
-  body_fits ps o occurs no_fault is e = by (is_among ps o.text) refl (is.0 e) where
+  body_fits ps o right is e = by (is_among ps o.text) refl (is.0 e) where
     by : (b : Bool) → is_among ps o.text ≡ b → o.role ≡ (if b then Parameter else PlainRole) →
         InBody (Passing (occurs_plain all)) ps o.text o.kind o.arity
     by true among role =
         let kind : o.kind ≡ Signal = signal_is o.kind
-        (sym (ap (λ r. not (kind_fault_as r o (is_unlike_first alike_in_kind all o))) role) ∙ no_fault) in
+        (sym (ap (λ r. kind_fault_as r o (is_unlike_first alike_in_kind all o)) role) ∙ right.kind) in
         (λ there. (kind, is.1 kind), λ absent. absurd (absent (among_from o.text ps among)))
     by false among role =
-        (λ there. let clash : true ≡ false = sym (among_is o.text ps there) ∙ among in absurd cc, λ absent. occurs (ap is_plain role))
+        (λ there. let clash : true ≡ false = sym (among_is o.text ps there) ∙ among in absurd cc, λ absent. right.occurs (ap is_plain role))
 
-  pub body_plain : (ps : List (List ℕ)) (a : FormulaSyntax) → AllByRecursion (Occurs all) (formula_occurrences (of_body heads ps) 0 a) →
-      list_all (is_used_well heads) (formula_occurrences (of_body heads ps) 0 a) ≡ true →
-      list_all (λ o. not (has_kind_fault all o)) (formula_occurrences (of_body heads ps) 0 a) ≡ true →
+  pub body_plain : (ps : List (List ℕ)) (a : FormulaSyntax) → AllByRecursion (IsRight heads all) (formula_occurrences (of_body heads ps) 0 a) →
       Plain (InBody (Passing (occurs_plain all)) ps) named rank a
-  body_plain ps a each well kinds =
-      let os = formula_occurrences (of_body heads ps) 0 a in
-      plain_from named rank heads (of_body heads ps) same arities (InBody (Passing (occurs_plain all)) ps) 0 a
-      (each_both {R = Fits named rank heads (of_body heads ps) same arities (InBody (Passing (occurs_plain all)) ps)}
-      (λ o h is. body_fits ps o h.0 h.1 is) os
-      (each_both {R = λ o. Occurs all o × (not (has_kind_fault all o) ≡ true)} (λ o h k. (h, k)) os each
-      (each_from_list_all (λ o. not (has_kind_fault all o)) os kinds))
-      (placed named rank heads (of_body heads ps) same arities 0 a))
-      well
+  body_plain ps a each =
+      let s = of_body heads ps in
+      plain_from named rank heads s same arities (InBody (Passing (occurs_plain all)) ps) 0 a
+      (each_both (IsRight heads all) (IsPlaced named rank heads s same arities)
+      (Fits named rank heads s same arities (InBody (Passing (occurs_plain all)) ps))
+      (λ o right is. (body_fits ps o right is, right.well)) (formula_occurrences s 0 a) each (placed named rank heads s same arities a))

@@ -1,13 +1,13 @@
 -- Where no definition of a text reaches itself, there are ranks that fall along its uses.
-use Rattle.std.proofs.Common.{◌≡◌, ℕ, zero, suc, ◌<◌, Bool, true, false, List, [], ◌∷◌, length, map, refl, ap, sym, ◌∙◌, subst, arith}
+use Rattle.std.proofs.Common.{◌≡◌, ℕ, zero, suc, ◌<◌, true, false, List, [], ◌∷◌, length, map, refl, ap, sym, ◌∙◌, subst, arith}
 use Rattle.std.specs.Prelude.{◌&&◌, Option, Some, None, slice_get, position}
 use Rattle.std.specs.List.{AllByRecursion}
 use Rattle.std.specs.Option.{is_some, option_map_or}
 use Rattle.std.proofs.lemmas.List.{length-map}
 use Rattle.std.proofs.lemmas.Option.{none-some, same_Some}
 use Rattle.sequence.proofs.Each.{each_from_places}
+use Rattle.sequence.proofs.Options.{some_is}
 use Rattle.tsl_terms.specs.Name.{AreDistinct}
-use Rattle.tsl_terms.specs.Clashes.{first_uses}
 use Rattle.tsl_terms.proofs.FirstUses.{first_uses_distinct}
 use Rattle.spec_syntax.specs.Syntax.{FormulaSyntax, Definition, Declaration, the_section, the_definition}
 use Rattle.named_formulas.specs.DefinitionView.{named_in}
@@ -60,12 +60,10 @@ stands_at (e ∷ ds) x (later k) =
     record { place = suc s.place; definition = s.definition; there = s.there; name_is = s.name_is }
 
 defined_among : (ds : List Definition) (x : List ℕ) → is_some (named_in ds x) ≡ true → Among x (names_of ds)
-defined_among ds x h = by (named_in ds x) refl h where
-  by : (o : Option Definition) → named_in ds x ≡ o → is_some o ≡ true → Among x (names_of ds)
-  by None e g = cc
-  by (Some d) e g =
-      let at = named_at ds x d e in
-      subst (λ y. Among y (names_of ds)) at.2 (name_among ds at.0 d at.1)
+defined_among ds x h =
+    let d = some_is (named_in ds x) h in
+    let at = named_at ds x d.0 d.1 in
+    subst (λ y. Among y (names_of ds)) at.2 (name_among ds at.0 d.0 at.1)
 
 -- ---- ranks
 
@@ -104,15 +102,11 @@ module _ (ds : List Declaration) (once : position (λ o. is_redefined o.role) (n
       each_from_places (λ u. is_some (named u.name) ≡ true → ranking.rank u.name < length all) (uses_at 0 a) (λ k u there defined.
       omega (arith, ranking.below u.name (defined_among all u.name defined), length-map all (λ d. d.name)))
 
-  each_below : (fs : List FormulaSyntax) → AllByRecursion (UsesAreBelow named ranking.rank (length all)) fs
-  each_below [] = tt
-  each_below (f ∷ fs) = (any_below f, each_below fs)
-
   fall : (es : List Declaration) →
       ((i : ℕ) (d : Definition) → slice_get (definitions_in es) i ≡ Some d → UsesAreBelow named ranking.rank (ranking.rank d.name) d.body) →
       AllByRecursion (RanksFall named ranking.rank (length all)) es
   fall [] h = tt
-  fall (the_section s ∷ es) h = (each_below s.formulas, fall es h)
+  fall (the_section s ∷ es) h = (each_from_places _ s.formulas (λ i f at. any_below f), fall es h)
   fall (the_definition d ∷ es) h = (h 0 d refl, fall es (λ i e at. h (suc i) e at))
 
   pub ranks_are : (rank : List ℕ → ℕ) × AllByRecursion (RanksFall named rank (length all)) ds

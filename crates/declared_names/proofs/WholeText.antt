@@ -1,57 +1,58 @@
 -- A text of which no name is wrong where it stands.
-use Rattle.std.proofs.Common.{◌≡◌, ℕ, Bool, true, false, cond, not, List, [], ◌∷◌, ◌++◌, map, refl, ap, sym, ◌∙◌, subst, append_assoc}
-use Rattle.std.specs.Prelude.{◌&&◌, ◌||◌, Option, Some, None, option_map, flat_map, position, if◌then◌else◌}
-use Rattle.std.specs.List.{list_all, list_any, AllByRecursion}
+use Rattle.std.proofs.Common.{◌≡◌, ℕ, Bool, true, false, cond, List, [], ◌∷◌, ◌++◌, map, refl, ap, sym, ◌∙◌, subst, append_assoc}
+use Rattle.std.specs.Prelude.{◌||◌, Option, Some, None, option_map, position, if◌then◌else◌}
+use Rattle.std.specs.List.{list_any, AllByRecursion}
 use Rattle.std.specs.Option.{is_some}
 use Rattle.std.specs.Str.{bytes_eq}
 use Rattle.std.proofs.lemmas.List.{append-nil}
+use Rattle.std.proofs.lemmas.Bool.{or_parts}
 use Rattle.std.proofs.lemmas.Iterator.Adapters.{position_from-zero}
 use Rattle.sequence.proofs.Bytes.{same_bytes}
 use Rattle.sequence.proofs.Options.{none_is}
-use Rattle.sequence.proofs.Each.{each_left, each_right}
-use Rattle.sequence.proofs.Passes.{list_all_parts}
+use Rattle.sequence.proofs.Each.{each_left, each_right, each_both, each_weaker}
 use Rattle.tsl_terms.specs.Name.{Name, number_of, texts}
 use Rattle.tsl_terms.specs.Clashes.{added_unless_found, with_use, with_uses, first_uses, alike_in_kind, same_arity}
 use Rattle.tsl_terms.proofs.FirstUses.{first_of, named_first, named_is}
-use Rattle.spec_syntax.specs.Syntax.{FormulaSyntax, Definition, Declaration, the_section, the_definition}
+use Rattle.spec_syntax.specs.Syntax.{SectionSyntax, Definition, Declaration, the_section, the_definition}
 use Rattle.named_formulas.specs.DefinitionView.{named_in}
-use Rattle.named_formulas.specs.Occurrences.{Passing, Plain}
-use Rattle.named_formulas.specs.UseLevels.{uses_at, AreWithin}
 use Rattle.named_formulas.specs.WellUsed.{IsFree, AreFree, UsesWell, AreRanked}
 use Rattle.declared_names.specs.declared.occurrence.Role.TheVariants.{Head, Redefined, Parameter}
 use Rattle.declared_names.specs.Heads.{head_of, definitions_in, heads_in, is_name, is_among}
-use Rattle.declared_names.specs.Occurrences.{Occurrence, Scope, of_section, of_body, formula_occurrences, section_occurrences, is_repeated}
-use Rattle.declared_names.specs.Occurrences.{head_name, parameter_name, definition_occurrences, occurrences_behind, occurrences}
-use Rattle.declared_names.specs.Faults.{is_redefined, deepest_level, levels_for, is_deep_use, name_with, is_unlike_first, is_unlike_name, has_kind_fault, has_arity_fault}
-use Rattle.declared_names.specs.WellDeclared.{UsesAreBelow, RanksFall, IsWellDeclared, is_used_well, UsesFit, occurs_plain, IsPlainlyUsed}
+use Rattle.declared_names.specs.Occurrences.{Occurrence, of_section, of_body, formula_occurrences, section_occurrences, is_repeated}
+use Rattle.declared_names.specs.Occurrences.{parameter_name, definition_occurrences, occurrences_behind, occurrences}
+use Rattle.declared_names.specs.Faults.{is_redefined, is_deep_use, name_with, is_unlike_first, is_unlike_name, has_kind_fault, has_arity_fault}
+use Rattle.declared_names.specs.WellDeclared.{UsesAreBelow, RanksFall, IsWellDeclared, is_used_well, UsesFit, IsPlainlyUsed}
 use Rattle.declared_names.proofs.NameTests.{any_from, is_name_any}
-use Rattle.declared_names.proofs.UsedWell.{well_from, both, not_true, uses_well}
-use Rattle.declared_names.proofs.DeepUses.{within, uses_within}
-use Rattle.declared_names.proofs.PlainUses.{Occurs, plain_there, section_plain, body_plain}
+use Rattle.declared_names.proofs.EachName.{from_formulas, from_declarations}
+use Rattle.declared_names.proofs.UsedWell.{well_from, uses_well}
+use Rattle.declared_names.proofs.DeepUses.{IsShallow, uses_within}
+use Rattle.declared_names.proofs.PlainUses.{Occurs, IsRight, plain_there, section_plain, body_plain}
 
 -- ---- nowhere
 
-none_of : {X : Type 0} (p : X → Bool) (xs : List X) → list_any p xs ≡ false → list_all (λ x. not (p x)) xs ≡ true
-none_of p [] h = refl
-none_of p (x ∷ xs) h = by (p x) h (none_of p xs) where
-  by : (b : Bool) → (b || list_any p xs) ≡ false → (list_any p xs ≡ false → list_all (λ y. not (p y)) xs ≡ true) →
-      (not b && list_all (λ y. not (p y)) xs) ≡ true
-  by true g rest = sym g
-  by false g rest = rest g
+none_of : {X : Type 0} (p : X → Bool) (xs : List X) → list_any p xs ≡ false → AllByRecursion (λ x. p x ≡ false) xs
+none_of p [] h = tt
+none_of p (x ∷ xs) h =
+    let parts = or_parts (p x) (list_any p xs) h in
+    (parts.0, none_of p xs parts.1)
 
 -- what has no place passes nowhere
-pub nowhere : {X : Type 0} (p : X → Bool) (xs : List X) → position p xs ≡ None → list_all (λ x. not (p x)) xs ≡ true
+pub nowhere : {X : Type 0} (p : X → Bool) (xs : List X) → position p xs ≡ None → AllByRecursion (λ x. p x ≡ false) xs
 nowhere p xs h = none_of p xs (sym (ap is_some (position_from-zero p xs) ∙ any_from p 0 xs) ∙ ap is_some h)
 
-all_well : (heads : List Name) (whole os : List Occurrence) → list_all (λ o. not (has_kind_fault whole o)) os ≡ true →
-    list_all (λ o. not (has_arity_fault heads whole o)) os ≡ true → list_all (is_used_well heads) os ≡ true
-all_well heads whole [] kinds arities = refl
-all_well heads whole (o ∷ os) kinds arities =
-    let k = both (not (has_kind_fault whole o)) (list_all (λ p. not (has_kind_fault whole p)) os) kinds in
-    let a = both (not (has_arity_fault heads whole o)) (list_all (λ p. not (has_arity_fault heads whole p)) os) arities in
-    (λ i. well_from o.role o (is_unlike_name same_arity heads o) (is_unlike_first alike_in_kind whole o) (is_unlike_first same_arity whole o)
-    (not_true (has_kind_fault whole o) k.0) (not_true (has_arity_fault heads whole o) a.0) i && list_all (is_used_well heads) os)
-    ∙ all_well heads whole os k.1 a.1
+-- where none has a fault each name is right
+all_right : (heads : List Name) (all : List Occurrence) → position (has_kind_fault all) all ≡ None →
+    position (has_arity_fault heads all) all ≡ None → AllByRecursion (IsRight heads all) all
+all_right heads all kinds arities =
+    each_both (λ o. (has_kind_fault all o ≡ false) × (has_arity_fault heads all o ≡ false)) (Occurs all) (IsRight heads all)
+    (λ o none occurs. record {
+      well = well_from o.role o (is_unlike_name same_arity heads o) (is_unlike_first alike_in_kind all o)
+          (is_unlike_first same_arity all o) none.0 none.1;
+      kind = none.0;
+      occurs = occurs;
+    }) all
+    (each_both _ _ _ (λ o k a. (k, a)) all (nowhere (has_kind_fault all) all kinds) (nowhere (has_arity_fault heads all) all arities))
+    (plain_there all)
 
 -- ---- the defined names of a text
 
@@ -85,24 +86,24 @@ heads_same ds x =
     is_name_any (first_uses (heads_in ds)) x ∙ among_first (first_uses (heads_in ds)) x
     ∙ ap is_some (sym (named_is (first_uses (heads_in ds)) x) ∙ heads_are ds x) ∙ some_mapped head_of (named_in (definitions_in ds) x)
 
-abbrev pub stands : Occurrence → Bool
-stands o = not (is_redefined o.role)
+abbrev pub Stands : Occurrence → Type 0
+Stands o = is_redefined o.role ≡ false
 
-behind : (heads before : List Name) (ds : List Declaration) → list_all stands (occurrences_behind heads before ds) ≡ true →
+behind : (heads before : List Name) (ds : List Declaration) → AllByRecursion Stands (occurrences_behind heads before ds) →
     with_uses before (heads_in ds) ≡ before ++ heads_in ds
 behind heads before [] h = sym (append-nil before)
 behind heads before (the_section s ∷ ds) h =
-    behind heads before ds (list_all_parts stands (section_occurrences heads s) (occurrences_behind heads before ds) h).1
+    behind heads before ds (each_right Stands (section_occurrences heads s) (occurrences_behind heads before ds) h)
 behind heads before (the_definition d ∷ ds) h =
-    let parts = list_all_parts stands (definition_occurrences heads before d) (occurrences_behind heads (with_use before (head_of d)) ds) h in
-    let first = both (stands (head_name before d)) _ parts.0 in
+    let own = definition_occurrences heads before d in
+    let rest = occurrences_behind heads (with_use before (head_of d)) ds in
     let added : with_use before (head_of d) ≡ before ++ head_of d ∷ [] = ap (added_unless_found before (head_of d)) (none_is (number_of before d.name)
-    (new (is_name before d.name) first.0)) in
-    behind heads (with_use before (head_of d)) ds parts.1
+    (new (is_name before d.name) (each_left Stands own rest h).0)) in
+    behind heads (with_use before (head_of d)) ds (each_right Stands own rest h)
     ∙ ap (λ ns. ns ++ heads_in ds) added ∙ append_assoc before (head_of d ∷ []) (heads_in ds)
   where
-    new : (b : Bool) → not (is_redefined (if b then Redefined else Head)) ≡ true → b ≡ false
-    new true g = sym g
+    new : (b : Bool) → is_redefined (if b then Redefined else Head) ≡ false → b ≡ false
+    new true g = g
     new false g = refl
 
 -- where no name is redefined, the defined names are those of the definitions, one after another
@@ -113,52 +114,45 @@ heads_stand ds heads h = behind heads [] ds (nowhere (λ o. is_redefined o.role)
 -- ---- each declaration
 
 module _ (named : List ℕ → Option Definition) (rank : List ℕ → ℕ) (below : ℕ) (heads : List Name) (same : (x : List ℕ) → is_name heads x ≡ is_some (named x)) (arities : (x : List ℕ) → name_with heads x ≡ option_map head_of (named x)) where
-  formulas_well : (s : Scope) → ((x : List ℕ) → s.is_defined x ≡ is_some (named x)) → (fs : List FormulaSyntax) →
-      list_all (is_used_well heads) (flat_map (formula_occurrences s 0) fs) ≡ true → AllByRecursion (UsesAreBelow named rank below) fs →
-      AllByRecursion (UsesWell named rank below) fs
-  formulas_well s defined [] h falls = tt
-  formulas_well s defined (f ∷ fs) h falls =
-      let parts = list_all_parts (is_used_well heads) (formula_occurrences s 0 f) (flat_map (formula_occurrences s 0) fs) h in
-      (uses_well named rank heads s defined arities below 0 f parts.0 falls.0, formulas_well s defined fs parts.1 falls.1)
+  -- names that are right and stand
+  abbrev IsGood : Occurrence → Type 0
+  IsGood o = (is_used_well heads o ≡ true) × Stands o
+
+  abbrev FallsWell : Declaration → Type 0
+  FallsWell d = RanksFall named rank below d → IsWellDeclared named rank below d
+
+  section_well : (s : SectionSyntax) → AllByRecursion IsGood (section_occurrences heads s) → FallsWell (the_section s)
+  section_well s h falls =
+      each_both (λ f. UsesAreBelow named rank below f → UsesWell named rank below f) (UsesAreBelow named rank below) (UsesWell named rank below)
+      (λ f well fall. well fall) s.formulas
+      (from_formulas (of_section heads) IsGood _
+      (λ f k. uses_well named rank heads (of_section heads) same arities below 0 f (each_weaker _ _ (λ o g. g.0) _ k)) s.formulas h) falls
 
   free_parameter : (x : List ℕ) (twice : Bool) (b : Bool) → is_name heads x ≡ b →
-      not (is_redefined (if b || twice then Redefined else Parameter)) ≡ true → IsFree named rank x
+      is_redefined (if b || twice then Redefined else Parameter) ≡ false → IsFree named rank x
   free_parameter x twice true is h = cc
   free_parameter x twice false is h = none_is (named x) (sym (same x) ∙ is)
 
   free_parameters : (is_twice : List ℕ → Bool) (ps : List (List ℕ)) →
-      list_all stands (map (parameter_name (is_name heads) is_twice) ps) ≡ true → AreFree named rank ps
+      AllByRecursion IsGood (map (parameter_name (is_name heads) is_twice) ps) → AreFree named rank ps
   free_parameters is_twice [] h = tt
-  free_parameters is_twice (p ∷ ps) h =
-      let parts = both (stands (parameter_name (is_name heads) is_twice p)) (list_all stands (map (parameter_name (is_name heads) is_twice) ps)) h in
-      (free_parameter p (is_twice p) (is_name heads p) refl parts.0, free_parameters is_twice ps parts.1)
+  free_parameters is_twice (p ∷ ps) h = (free_parameter p (is_twice p) (is_name heads p) refl h.0.1, free_parameters is_twice ps h.1)
 
-  definition_well : (before : List Name) (d : Definition) → list_all (is_used_well heads) (definition_occurrences heads before d) ≡ true →
-      list_all stands (definition_occurrences heads before d) ≡ true → UsesAreBelow named rank (rank d.name) d.body →
-      IsWellDeclared named rank below (the_definition d)
-  definition_well before d h none falls =
+  definition_well : (before : List Name) (d : Definition) → AllByRecursion IsGood (definition_occurrences heads before d) →
+      FallsWell (the_definition d)
+  definition_well before d h falls =
       let parameters = map (parameter_name (is_name heads) (is_repeated d.parameters)) d.parameters in
-      let body = formula_occurrences (of_body heads d.parameters) 0 d.body in
-      let well = both (is_used_well heads (head_name before d)) (list_all (is_used_well heads) (parameters ++ body)) h in
-      let standing = both (stands (head_name before d)) (list_all stands (parameters ++ body)) none in (
+      let body = formula_occurrences (of_body heads d.parameters) 0 d.body in (
         uses_well named rank heads (of_body heads d.parameters) same arities (rank d.name) 0 d.body
-            (list_all_parts (is_used_well heads) parameters body well.1).1 falls,
-        free_parameters (is_repeated d.parameters) d.parameters (list_all_parts stands parameters body standing.1).0,
+            (each_weaker _ _ (λ o g. g.0) body (each_right IsGood parameters body h.1)) falls,
+        free_parameters (is_repeated d.parameters) d.parameters (each_left IsGood parameters body h.1),
       )
 
-  declarations_well : (before : List Name) (ds : List Declaration) → list_all (is_used_well heads) (occurrences_behind heads before ds) ≡ true →
-      list_all stands (occurrences_behind heads before ds) ≡ true → AllByRecursion (RanksFall named rank below) ds →
+  declarations_well : (ds : List Declaration) → AllByRecursion IsGood (occurrences heads ds) → AllByRecursion (RanksFall named rank below) ds →
       AllByRecursion (IsWellDeclared named rank below) ds
-  declarations_well before [] h none falls = tt
-  declarations_well before (the_section s ∷ ds) h none falls =
-      let well = list_all_parts (is_used_well heads) (section_occurrences heads s) (occurrences_behind heads before ds) h in
-      let standing = list_all_parts stands (section_occurrences heads s) (occurrences_behind heads before ds) none in
-      (formulas_well (of_section heads) same s.formulas well.0 falls.0, declarations_well before ds well.1 standing.1 falls.1)
-  declarations_well before (the_definition d ∷ ds) h none falls =
-      let after = with_use before (head_of d) in
-      let well = list_all_parts (is_used_well heads) (definition_occurrences heads before d) (occurrences_behind heads after ds) h in
-      let standing = list_all_parts stands (definition_occurrences heads before d) (occurrences_behind heads after ds) none in
-      (definition_well before d well.0 standing.0 falls.0, declarations_well after ds well.1 standing.1 falls.1)
+  declarations_well ds h falls =
+      each_both FallsWell (RanksFall named rank below) (IsWellDeclared named rank below) (λ d well fall. well fall) ds
+      (from_declarations heads IsGood FallsWell section_well definition_well [] ds h) falls
 
 -- where no name is wrong and ranks fall along uses, each declaration uses defined names well
 pub text_well : (ds : List Declaration) (rank : List ℕ → ℕ) (below : ℕ) →
@@ -171,9 +165,9 @@ pub text_well : (ds : List Declaration) (rank : List ℕ → ℕ) (below : ℕ) 
 text_well ds rank below redefined kinds arities falls =
     let heads = first_uses (heads_in ds) in
     let all = occurrences heads ds in
-    declarations_well (named_in (definitions_in ds)) rank below heads (heads_same ds) (heads_are ds) [] ds
-    (all_well heads all all (nowhere (has_kind_fault all) all kinds) (nowhere (has_arity_fault heads all) all arities))
-    (nowhere (λ o. is_redefined o.role) all redefined) falls
+    declarations_well (named_in (definitions_in ds)) rank below heads (heads_same ds) (heads_are ds) ds
+    (each_both (IsRight heads all) Stands _ (λ o right stands. (right.well, stands)) all (all_right heads all kinds arities)
+    (nowhere (λ o. is_redefined o.role) all redefined)) falls
 
 -- the definition of a name is one of those of the text
 definition_found : (named : List ℕ → Option Definition) (rank : List ℕ → ℕ) (below : ℕ) (ds : List Declaration) (x : List ℕ) (d : Definition) →
@@ -200,32 +194,6 @@ text_ranked ds rank below each = record {
 
 -- ---- levels
 
-formulas_fit : (heads : List Name) (levels : List ℕ) (fs : List FormulaSyntax) →
-    list_all (within heads levels) (flat_map (formula_occurrences (of_section heads) 0) fs) ≡ true →
-    list_all (is_used_well heads) (flat_map (formula_occurrences (of_section heads) 0) fs) ≡ true →
-    AllByRecursion (λ f. AreWithin deepest_level (levels_for heads levels) (uses_at 0 f)) fs
-formulas_fit heads levels [] h well = tt
-formulas_fit heads levels (f ∷ fs) h well =
-    let first = formula_occurrences (of_section heads) 0 f in
-    let rest = flat_map (formula_occurrences (of_section heads) 0) fs in
-    let hs = list_all_parts (within heads levels) first rest h in
-    let ws = list_all_parts (is_used_well heads) first rest well in
-    (uses_within heads levels 0 f hs.0 ws.0, formulas_fit heads levels fs hs.1 ws.1)
-
-declarations_fit : (heads : List Name) (levels : List ℕ) (before : List Name) (ds : List Declaration) →
-    list_all (within heads levels) (occurrences_behind heads before ds) ≡ true →
-    list_all (is_used_well heads) (occurrences_behind heads before ds) ≡ true → AllByRecursion (UsesFit heads levels) ds
-declarations_fit heads levels before [] h well = tt
-declarations_fit heads levels before (the_section s ∷ ds) h well =
-    let hs = list_all_parts (within heads levels) (section_occurrences heads s) (occurrences_behind heads before ds) h in
-    let ws = list_all_parts (is_used_well heads) (section_occurrences heads s) (occurrences_behind heads before ds) well in
-    (formulas_fit heads levels s.formulas hs.0 ws.0, declarations_fit heads levels before ds hs.1 ws.1)
-declarations_fit heads levels before (the_definition d ∷ ds) h well =
-    let after = with_use before (head_of d) in
-    let hs = list_all_parts (within heads levels) (definition_occurrences heads before d) (occurrences_behind heads after ds) h in
-    let ws = list_all_parts (is_used_well heads) (definition_occurrences heads before d) (occurrences_behind heads after ds) well in
-    (tt, declarations_fit heads levels after ds hs.1 ws.1)
-
 -- where no name is of a wrong kind or arity and no use is too deep, the uses in sections fit
 pub text_fits : (ds : List Declaration) (heads : List Name) (levels : List ℕ) →
     position (has_kind_fault (occurrences heads ds)) (occurrences heads ds) ≡ None →
@@ -233,55 +201,12 @@ pub text_fits : (ds : List Declaration) (heads : List Name) (levels : List ℕ) 
     position (is_deep_use heads levels) (occurrences heads ds) ≡ None → AllByRecursion (UsesFit heads levels) ds
 text_fits ds heads levels kinds arities deep =
     let all = occurrences heads ds in
-    declarations_fit heads levels [] ds (nowhere (is_deep_use heads levels) all deep)
-    (all_well heads all all (nowhere (has_kind_fault all) all kinds) (nowhere (has_arity_fault heads all) all arities))
+    from_declarations heads (IsShallow heads levels) (UsesFit heads levels)
+    (λ s. from_formulas (of_section heads) (IsShallow heads levels) _ (uses_within heads levels 0) s.formulas) (λ before d h. tt) [] ds
+    (each_both (λ o. is_deep_use heads levels o ≡ false) (IsRight heads all) (IsShallow heads levels) (λ o shallow right. (shallow, right.well))
+    all (nowhere (is_deep_use heads levels) all deep) (all_right heads all kinds arities))
 
 -- ---- plain names
-
-formulas_plain : (named : List ℕ → Option Definition) (rank : List ℕ → ℕ) (heads : List Name) →
-    ((x : List ℕ) → is_name heads x ≡ is_some (named x)) → ((x : List ℕ) → name_with heads x ≡ option_map head_of (named x)) →
-    (all : List Occurrence) (fs : List FormulaSyntax) → AllByRecursion (Occurs all) (flat_map (formula_occurrences (of_section heads) 0) fs) →
-    list_all (is_used_well heads) (flat_map (formula_occurrences (of_section heads) 0) fs) ≡ true →
-    AllByRecursion (Plain (Passing (occurs_plain all)) named rank) fs
-formulas_plain named rank heads same arities all [] each well = tt
-formulas_plain named rank heads same arities all (f ∷ fs) each well =
-    let first = formula_occurrences (of_section heads) 0 f in
-    let rest = flat_map (formula_occurrences (of_section heads) 0) fs in
-    let ws = list_all_parts (is_used_well heads) first rest well in (
-      section_plain named rank heads same arities all f (each_left (Occurs all) first rest each) ws.0,
-      formulas_plain named rank heads same arities all fs (each_right (Occurs all) first rest each) ws.1,
-    )
-
-declarations_plain : (named : List ℕ → Option Definition) (rank : List ℕ → ℕ) (heads : List Name) →
-    ((x : List ℕ) → is_name heads x ≡ is_some (named x)) → ((x : List ℕ) → name_with heads x ≡ option_map head_of (named x)) →
-    (all : List Occurrence) (before : List Name) (ds : List Declaration) → AllByRecursion (Occurs all) (occurrences_behind heads before ds) →
-    list_all (is_used_well heads) (occurrences_behind heads before ds) ≡ true →
-    list_all (λ o. not (has_kind_fault all o)) (occurrences_behind heads before ds) ≡ true →
-    AllByRecursion (IsPlainlyUsed all named rank) ds
-declarations_plain named rank heads same arities all before [] each well kinds = tt
-declarations_plain named rank heads same arities all before (the_section s ∷ ds) each well kinds =
-    let own = section_occurrences heads s in
-    let rest = occurrences_behind heads before ds in
-    let ws = list_all_parts (is_used_well heads) own rest well in
-    let ks = list_all_parts (λ o. not (has_kind_fault all o)) own rest kinds in (
-      formulas_plain named rank heads same arities all s.formulas (each_left (Occurs all) own rest each) ws.0,
-      declarations_plain named rank heads same arities all before ds (each_right (Occurs all) own rest each) ws.1 ks.1,
-    )
-declarations_plain named rank heads same arities all before (the_definition d ∷ ds) each well kinds =
-    let after = with_use before (head_of d) in
-    let own = definition_occurrences heads before d in
-    let rest = occurrences_behind heads after ds in
-    let parameters = map (parameter_name (is_name heads) (is_repeated d.parameters)) d.parameters in
-    let body = formula_occurrences (of_body heads d.parameters) 0 d.body in
-    let ws = list_all_parts (is_used_well heads) own rest well in
-    let ks = list_all_parts (λ o. not (has_kind_fault all o)) own rest kinds in
-    let wb = both (is_used_well heads (head_name before d)) (list_all (is_used_well heads) (parameters ++ body)) ws.0 in
-    let kb = both (not (has_kind_fault all (head_name before d))) (list_all (λ o. not (has_kind_fault all o)) (parameters ++ body)) ks.0 in (
-      body_plain named rank heads same arities all d.parameters d.body
-          (each_right (Occurs all) parameters body (each_left (Occurs all) own rest each).1)
-          (list_all_parts (is_used_well heads) parameters body wb.1).1 (list_all_parts (λ o. not (has_kind_fault all o)) parameters body kb.1).1,
-      declarations_plain named rank heads same arities all after ds (each_right (Occurs all) own rest each) ws.1 ks.1,
-    )
 
 -- where no name is of a wrong kind or arity, each plain name is used as it occurs
 pub text_plain : (ds : List Declaration) (rank : List ℕ → ℕ) →
@@ -292,6 +217,9 @@ pub text_plain : (ds : List Declaration) (rank : List ℕ → ℕ) →
 text_plain ds rank kinds arities =
     let heads = first_uses (heads_in ds) in
     let all = occurrences heads ds in
-    declarations_plain (named_in (definitions_in ds)) rank heads (heads_same ds) (heads_are ds) all [] ds (plain_there all)
-    (all_well heads all all (nowhere (has_kind_fault all) all kinds) (nowhere (has_arity_fault heads all) all arities))
-    (nowhere (has_kind_fault all) all kinds)
+    let named = named_in (definitions_in ds) in
+    from_declarations heads (IsRight heads all) (IsPlainlyUsed all named rank)
+    (λ s. from_formulas (of_section heads) (IsRight heads all) _ (section_plain named rank heads (heads_same ds) (heads_are ds) all) s.formulas)
+    (λ before d h. body_plain named rank heads (heads_same ds) (heads_are ds) all d.parameters d.body
+    (each_right (IsRight heads all) (map (parameter_name (is_name heads) (is_repeated d.parameters)) d.parameters) _ h.1))
+    [] ds (all_right heads all kinds arities)

@@ -32,8 +32,8 @@ use Rattle.named_formulas.specs.TextExpansion.{Expands}
 use Rattle.named_formulas.specs.WellUsed.{as_written}
 use Rattle.named_formulas.proofs.OneExpansion.{one_expansion}
 use Rattle.declared_names.specs.Heads.{definitions_in}
-use Rattle.tsl_reader.proofs.DeclarationFaults.{form_is_within, deep_is_within, form_stops_all, form_begins, deep_stops, deep_begins}
-use Rattle.tsl_reader.proofs.DeclarationFaults.{deep_goes_on, no_text}
+use Rattle.spec_syntax.proofs.ExactDeclarations.{declarations_exact}
+use Rattle.spec_syntax.proofs.FirstFaults as first
 
 -- the terminals of tokens before and behind one
 terminals_split : (text : List ℕ) (before : List Token) (token : Token) (after : List Token) →
@@ -71,7 +71,7 @@ wrong_token : (text : List ℕ) (tokens : List Token) → AreTokens text tokens 
 wrong_token text tokens are left h token there some =
     let few : left ≤ length tokens = omega (
       arith,
-      form_is_within deepest_level (terminals text tokens) left h,
+      first.form_within (declarations_exact deepest_level) (terminals text tokens) left h,
       length_terminals text tokens,
     ) in
     let s : Stop text tokens left token = stop_at text tokens left token there some few in
@@ -81,10 +81,10 @@ wrong_token text tokens are left h token there some =
       after = s.after;
       tokens_are = subst (AreTokens text) s.split are;
       place = refl;
-      begins = form_begins deepest_level (terminals text tokens) left h (terminals text s.before)
+      begins = first.form_begins (declarations_exact deepest_level) (terminals text tokens) left h (terminals text s.before)
           (terminal_at text token ∷ terminals text s.after) s.terminals_are s.here;
       stops = λ levels_left. rw (terminals_split text s.before token [])
-          (form_stops_all deepest_level (terminals text tokens) left h (terminals text s.before) (terminal_at text token)
+          (first.form_stops (declarations_exact deepest_level) (terminals text tokens) left h (terminals text s.before) (terminal_at text token)
           (terminals text s.after) s.terminals_are s.here levels_left);
     }
 
@@ -106,9 +106,9 @@ form_at_end text tokens are left h none =
       tokens = tokens;
       tokens_are = are;
       place = refl;
-      begins = form_begins deepest_level (terminals text tokens) left h (terminals text tokens) []
+      begins = first.form_begins (declarations_exact deepest_level) (terminals text tokens) left h (terminals text tokens) []
           (sym (append-nil (terminals text tokens))) none;
-      no_text = λ levels_left. no_text deepest_level (terminals text tokens) left h levels_left;
+      no_text = λ levels_left. first.no_value (declarations_exact deepest_level) (terminals text tokens) left h levels_left;
     })
 
 -- a level too many, at a token
@@ -116,7 +116,7 @@ pub deep_at_token : (text : List ℕ) (tokens : List Token) → AreTokens text t
     declarations deepest_level (terminals text tokens) ≡ Err (deep left) →
     (token : Token) → slice_get tokens (length tokens - left) ≡ Some token → HasDeepFault text token.start
 deep_at_token text tokens are left h token there =
-    let within = deep_is_within deepest_level (terminals text tokens) left h in
+    let within = first.deep_within (declarations_exact deepest_level) (terminals text tokens) left h in
     let few : left ≤ length tokens = omega (arith, within.1, length_terminals text tokens) in
     let s : Stop text tokens left token = stop_at text tokens left token there within.0 few in
     record {
@@ -125,14 +125,14 @@ deep_at_token text tokens are left h token there =
       after = s.after;
       tokens_are = subst (AreTokens text) s.split are;
       place = refl;
-      begins = deep_begins deepest_level (terminals text tokens) left h (terminals text s.before) (terminal_at text token)
+      begins = first.deep_begins (declarations_exact deepest_level) (terminals text tokens) left h (terminals text s.before) (terminal_at text token)
           (terminals text s.after) s.terminals_are s.here;
       stops = rw (terminals_split text s.before token [])
-          (deep_stops deepest_level (terminals text tokens) left h (terminals text s.before) (terminal_at text token)
+          (first.deep_stops (declarations_exact deepest_level) (terminals text tokens) left h (terminals text s.before) (terminal_at text token)
           (terminals text s.after) s.terminals_are s.here);
       levels_left = suc (suc deepest_level);
       goes_on = rw (terminals_split text s.before token [])
-          (deep_goes_on deepest_level (terminals text tokens) left h (terminals text s.before) (terminal_at text token)
+          (first.deep_goes_on (declarations_exact deepest_level) (terminals text tokens) left h (terminals text s.before) (terminal_at text token)
           (terminals text s.after) s.terminals_are s.here);
     }
 
@@ -140,7 +140,7 @@ deep_at_token text tokens are left h token there =
 pub deep_has_token : (text : List ℕ) (tokens : List Token) (left : ℕ) → declarations deepest_level (terminals text tokens) ≡ Err (deep left) →
     (0 < left) × (left ≤ length tokens)
 deep_has_token text tokens left h =
-    let within = deep_is_within deepest_level (terminals text tokens) left h in
+    let within = first.deep_within (declarations_exact deepest_level) (terminals text tokens) left h in
     (within.0, omega (arith, within.1, length_terminals text tokens))
 
 -- a text has one list of tokens

@@ -9,24 +9,27 @@ use Rattle.spec_syntax.specs.Syntax.{Terminal, SectionSyntax, Definition, Declar
 use Rattle.spec_syntax.specs.Grammar.{AreSections}
 use Rattle.named_formulas.specs.declared.sizing.Size.{Size}
 use Rattle.named_formulas.specs.declared.sizing.TheConstants.{NODES_STOP}
-use Rattle.named_formulas.specs.DefinitionView.{named_in}
+use Rattle.named_formulas.specs.declared.definitions.ReadDefinition.{ReadDefinition}
+use Rattle.named_formulas.specs.DefinitionView.{definition_of, named_in}
+use Rattle.named_formulas.specs.Uses.{IsOrder}
 use Rattle.named_formulas.specs.TextExpansion.{Expands}
 use Rattle.named_formulas.specs.WellUsed.{as_written}
 use Rattle.named_formulas.specs.SectionExpansion.{expanded_sections}
 use Rattle.named_formulas.specs.ExpansionSizes.{AreSizes}
 use Rattle.declared_names.specs.Heads.{definitions_in}
 use Rattle.declared_names.specs.Occurrences.{Occurrence}
+use Rattle.declared_names.specs.Faults.{has_kind_fault, has_arity_fault}
 use Rattle.declared_names.specs.WellDeclared.{heads_of, names_in, AreNamedWell, is_use_too_deep}
 use Rattle.declared_names.proofs.Expanded.{expansion_fits}
 use Rattle.tsl_reader.specs.Naming.{names_of}
 use Rattle.tsl_reader.specs.Spells.{deepest_level, most_formula_nodes, Derives, HasTooManyNodes}
-use Rattle.tsl_reader.specs.ReadText.{AreTextNames, AreWell, AreExpanded}
+use Rattle.tsl_reader.specs.ReadText.{AreTextNames, AreTextParts, AreWell, AreExpanded}
 use Rattle.tsl_reader.specs.Expanding.{replacing_in, expanded_bare, nodes_of_sections}
 use Rattle.tsl_reader.proofs.BareExpansions.{bare_stand, sections_few}
 use Rattle.tsl_reader.proofs.ExpandedTexts.{list_good}
 use Rattle.tsl_reader.proofs.LevelsOfSizes.{levels_of, levels_are, first_by_levels}
 use Rattle.tsl_reader.proofs.ManyNodesAreTold.{many_nodes_are_told}
-use Rattle.tsl_reader.proofs.TextParts.{well_named}
+use Rattle.tsl_reader.proofs.TextParts.{well_named, in_order}
 
 -- the sections with the expansions of their formulas derive from what their terminals expand to
 record Fits (own : List Terminal) (ds : List Declaration) : Type 0 where
@@ -100,8 +103,8 @@ module _ (text : List ℕ) (tokens : List Token) (own : List Terminal) (ds : Lis
       }
 
 -- the same of what is known of the text by its names and parts
-module _ (text : List ℕ) (tokens : List Token) (heads : List Name) (all : List Occurrence) (ss : List SectionSyntax)
-    (defined : List Definition) (sizes : List Size) (w : AreWell text tokens heads all ss defined) (are : AreSizes heads defined sizes)
+module _ {text : List ℕ} {tokens : List Token} {heads : List Name} {all : List Occurrence} {ss : List SectionSyntax}
+    {defined : List Definition} {sizes : List Size} (w : AreWell text tokens heads all ss defined) (are : AreSizes heads defined sizes)
     (deep : position (is_use_too_deep defined) all ≡ None) where
   abbrev n : AreTextNames text tokens heads all
   n = w.ordered.parts.named
@@ -118,12 +121,28 @@ module _ (text : List ℕ) (tokens : List Token) (heads : List Name) (all : List
   pub well_expanded : nodes_of_sections defined ss ≤ most_formula_nodes → AreExpanded text (map (expanded_bare defined) ss)
   well_expanded few =
       subst (AreExpanded text) (sym (λ i. map (expanded_bare (w.ordered.parts.definitions_are i)) (w.ordered.parts.sections_are i)))
-      (made text tokens n.own n.declarations n.derives (well_named text tokens heads all ss defined w) sizes sizes_are none_deep
+      (made text tokens n.own n.declarations n.derives (well_named w) sizes sizes_are none_deep
       (subst (λ m. m ≤ most_formula_nodes)
       (λ i. nodes_of_sections (w.ordered.parts.definitions_are i) (w.ordered.parts.sections_are i)) few))
 
   pub well_refused : most_formula_nodes < min NODES_STOP (nodes_of_sections defined ss) → HasTooManyNodes text
   well_refused many =
-      refused text tokens n.own n.declarations n.derives (well_named text tokens heads all ss defined w) sizes sizes_are none_deep
+      refused text tokens n.own n.declarations n.derives (well_named w) sizes sizes_are none_deep
       (subst (λ m. most_formula_nodes < min NODES_STOP m)
       (λ i. nodes_of_sections (w.ordered.parts.definitions_are i) (w.ordered.parts.sections_are i)) many)
+
+-- ---- definitions that are lent again are the same
+
+pub same_order : {rs qs : List ReadDefinition} {order : List ℕ} → rs ≡ qs → IsOrder (map definition_of rs) order →
+    IsOrder (map definition_of qs) order
+same_order {order = order} same is = subst (λ ds. IsOrder (map definition_of ds) order) same is
+
+pub same_sizes : {heads : List Name} {rs qs : List ReadDefinition} {zs ys : List Size} → rs ≡ qs → zs ≡ ys →
+    AreSizes heads (map definition_of rs) zs → AreSizes heads (map definition_of qs) ys
+same_sizes {heads = heads} {rs = rs} {ys = ys} same sizes are =
+    subst (λ ds. AreSizes heads (map definition_of ds) ys) same (subst (AreSizes heads (map definition_of rs)) sizes are)
+
+pub all_well : {text : List ℕ} {tokens : List Token} {heads : List Name} {all : List Occurrence} {ss : List SectionSyntax}
+    {ds : List Definition} {order : List ℕ} → AreTextParts text tokens heads all ss ds → IsOrder ds order →
+    position (has_kind_fault all) all ≡ None → position (has_arity_fault heads all) all ≡ None → AreWell text tokens heads all ss ds
+all_well parts is kinds arities = record { ordered = in_order parts is; kinds = kinds; arities = arities }

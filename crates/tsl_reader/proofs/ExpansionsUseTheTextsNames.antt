@@ -1,5 +1,5 @@
 -- The names that the expansion of a text uses are names of the text, and so usable where those are.
-use Rattle.std.proofs.Common.{◌≡◌, ℕ, true, List, [], ◌∷◌, map, refl, ap, sym, subst}
+use Rattle.std.proofs.Common.{◌≡◌, ℕ, true, List, map, sym, subst}
 use Rattle.std.specs.Prelude.{◌&&◌, ◌==◌}
 use Rattle.std.specs.List.{AllByRecursion}
 use Rattle.std.specs.Str.{bytes_eq}
@@ -11,7 +11,7 @@ use Rattle.tsl_text.specs.declared.Token.{Token}
 use Rattle.tsl_text.specs.Division.{AreTokens}
 use Rattle.tsl_terms.specs.declared.names.NameKind.{NameKind}
 use Rattle.tsl_terms.specs.Name.{same_kind}
-use Rattle.spec_syntax.specs.Syntax.{Terminal, free, word, mark, SectionSyntax, Declaration}
+use Rattle.spec_syntax.specs.Syntax.{Terminal, SectionSyntax, Declaration}
 use Rattle.spec_syntax.specs.Grammar.{AreSections, AreDeclarations}
 use Rattle.spec_syntax.specs.Texts.{terminals}
 use Rattle.named_formulas.specs.DefinitionView.{named_in}
@@ -26,16 +26,10 @@ use Rattle.declared_names.specs.WellDeclared.{occurs_plain, heads_of, names_in, 
 use Rattle.declared_names.proofs.WrittenTexts.{occurrences_texts}
 use Rattle.declared_names.proofs.Expanded.{expanded_names}
 use Rattle.tsl_reader.specs.Naming.{all_uses}
-use Rattle.tsl_reader.proofs.UseTexts.{free_texts}
+use Rattle.declared_names.proofs.WrittenTexts.{texts_are_names}
 use Rattle.tsl_reader.proofs.Usable.{IsUsable, usable_terminals}
 use Rattle.tsl_reader.proofs.UsesAreKnown.{UsesAreUsable}
 use Rattle.tsl_reader.proofs.UsesStand.{UseStands, uses_stand}
-
-texts_are_names : (xs : List Terminal) → free_texts xs ≡ free_names xs
-texts_are_names [] = refl
-texts_are_names (free x ∷ xs) = ap (λ names. x ∷ names) (texts_are_names xs)
-texts_are_names (word w ∷ xs) = texts_are_names xs
-texts_are_names (mark m ∷ xs) = texts_are_names xs
 
 -- the names of a text are usable
 pub names_are_usable : (text : List ℕ) (tokens : List Token) → AreTokens text tokens →

@@ -22,16 +22,8 @@ use Rattle.declared_names.proofs.Expanded.{expanded_names}
 use Rattle.tsl_reader.specs.Naming.{Use, question_use, named_by, all_uses}
 use Rattle.tsl_reader.specs.Spells.{IsDerived, deepest_level}
 use Rattle.tsl_reader.proofs.Counts.{names_in_text}
+use Rattle.tsl_reader.proofs.NameBounds.{one, one_at_most, still_found, then_found}
 use Rattle.tsl_reader.proofs.UsesStand.{UseStands, uses_stand}
-
--- 1 where there is one
-abbrev one : Option Name → ℕ
-one None = 0
-one (Some n) = 1
-
-one_at_most : (found : Option Name) → one found ≤ 1
-one_at_most None = omega arith
-one_at_most (Some n) = omega arith
 
 -- how many of these texts are those of names
 abbrev count : List (List ℕ) → List Name → ℕ
@@ -41,23 +33,6 @@ count (z ∷ zs) names = one (first_of names z) + count zs names
 count_within : (zs : List (List ℕ)) (names : List Name) → count zs names ≤ length zs
 count_within [] names = omega arith
 count_within (z ∷ zs) names = omega (arith, one_at_most (first_of names z), count_within zs names)
-
--- what is found stays found where a name is added
-still_found : (names : List Name) (added : Name) (z : List ℕ) → one (first_of names z) ≤ one (first_of (names ++ added ∷ []) z)
-still_found [] added z = omega arith
-still_found (n ∷ names) added z = by (bytes_eq z n.text) (still_found names added z) where
-  by : (is : Bool) → one (first_of names z) ≤ one (first_of (names ++ added ∷ []) z) →
-      one (cond is (Some n) (first_of names z)) ≤ one (cond is (Some n) (first_of (names ++ added ∷ []) z))
-  by true h = omega arith
-  by false h = h
-
--- a name that is added is found
-then_found : (names : List Name) (added : Name) (z : List ℕ) → bytes_eq z added.text ≡ true → one (first_of (names ++ added ∷ []) z) ≡ 1
-then_found [] added z h = ap (λ is. one (cond is (Some added) None)) h
-then_found (n ∷ names) added z h = by (bytes_eq z n.text) (then_found names added z h) where
-  by : (is : Bool) → one (first_of (names ++ added ∷ []) z) ≡ 1 → one (cond is (Some n) (first_of (names ++ added ∷ []) z)) ≡ 1
-  by true k = refl
-  by false k = k
 
 count_grows : (zs : List (List ℕ)) (names : List Name) (added : Name) → count zs names ≤ count zs (names ++ added ∷ [])
 count_grows [] names added = omega arith

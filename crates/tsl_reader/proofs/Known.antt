@@ -57,7 +57,7 @@ usable_is_other text h = by (bytes_eq text question) refl where
   by false e = refl
 
 -- the first use of a name is like each use
-like_first : (alike : Name → Name → Bool) (us : List Name) → HasNoClash alike us → (at : ℕ) (u f : Name) → slice_get us at ≡ Some u →
+pub like_first : (alike : Name → Name → Bool) (us : List Name) → HasNoClash alike us → (at : ℕ) (u f : Name) → slice_get us at ≡ Some u →
     first_of us u.text ≡ Some f → alike f u ≡ true
 like_first alike us none at u f there first = by (alike f u) refl where
   by : (is : Bool) → alike f u ≡ is → is ≡ true

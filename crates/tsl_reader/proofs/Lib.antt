@@ -2,7 +2,6 @@ mod Examples
 pub mod Causes
 pub mod OneCause
 pub mod SpelledFits
-pub mod UseTexts
 pub mod UsePlaces
 pub mod UseLemmas
 pub mod Shapes
@@ -14,7 +13,6 @@ pub mod NumberLemmas
 pub mod Results
 pub mod StageLemmas
 pub mod Counts
-pub mod DeclarationFaults
 pub mod NamePlaces
 pub mod Parameters
 pub mod Splits

@@ -8,16 +8,16 @@ use Rattle.tsl_terms.proofs.FirstUses.{first_of, not_found}
 use Rattle.tsl_reader.specs.Naming.{Use, question_use, named_by}
 
 -- 1 where there is one
-abbrev one : Option Name → ℕ
+abbrev pub one : Option Name → ℕ
 one None = 0
 one (Some n) = 1
 
-one_at_most : (found : Option Name) → one found ≤ 1
+pub one_at_most : (found : Option Name) → one found ≤ 1
 one_at_most None = omega arith
 one_at_most (Some n) = omega arith
 
 -- what is found stays found where a name is added
-still_found : (names : List Name) (added : Name) (text : List ℕ) → one (first_of names text) ≤ one (first_of (names ++ added ∷ []) text)
+pub still_found : (names : List Name) (added : Name) (text : List ℕ) → one (first_of names text) ≤ one (first_of (names ++ added ∷ []) text)
 still_found [] added text = omega arith
 still_found (n ∷ names) added text = by (bytes_eq text n.text) (still_found names added text) where
   by : (is : Bool) → one (first_of names text) ≤ one (first_of (names ++ added ∷ []) text) →
@@ -26,7 +26,7 @@ still_found (n ∷ names) added text = by (bytes_eq text n.text) (still_found na
   by false h = h
 
 -- a name that is added is found
-then_found : (names : List Name) (added : Name) (text : List ℕ) → bytes_eq text added.text ≡ true →
+pub then_found : (names : List Name) (added : Name) (text : List ℕ) → bytes_eq text added.text ≡ true →
     one (first_of (names ++ added ∷ []) text) ≡ 1
 then_found [] added text h = ap (λ is. one (cond is (Some added) None)) h
 then_found (n ∷ names) added text h = by (bytes_eq text n.text) (then_found names added text h) where

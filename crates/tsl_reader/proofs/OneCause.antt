@@ -5,8 +5,9 @@ use Rattle.std.proofs.lemmas.Bool.{cases_lt}
 use Rattle.std.proofs.lemmas.List.{map-append, append-nil}
 use Rattle.std.specs.Prelude.{Some, None, Err, slice_get, position}
 use Rattle.tsl_text.specs.declared.Token.{Token}
-use Rattle.tsl_text.specs.declared.TextError.TheVariants.{Byte, OpenComment}
-use Rattle.tsl_text.specs.Division.{AreTokens}
+use Rattle.tsl_text.specs.declared.TextError.{TextError}
+use Rattle.tsl_text.specs.declared.TextError.TheVariants.{Byte, OpenComment, NoMemory}
+use Rattle.tsl_text.specs.Division.{AreTokens, IsAnswer}
 use Rattle.tsl_text.proofs.Parts.{one_answer}
 use Rattle.tsl_terms.specs.SpecTree.{SpecTree}
 use Rattle.tsl_reader.specs.declared.SpecError.{SpecError}
@@ -74,46 +75,49 @@ one_stop text b c t u (sooner more e) x y =
 one_stop text b c t u (later more e) x y =
     absurd (no_more text c u more y.stops (subst (λ ts. SomeDeclarationsBegin deepest_level (terminals text ts)) e x.begins))
 
+-- at one place of one text
+one_stop_of : {text : List ℕ} {b c : List Token} {t u : Token} (a e : List Token) → AreTokens text (b ++ t ∷ a) →
+    AreTokens text (c ++ u ∷ e) → StopsAt text b t → StopsAt text c u → (b ≡ c) × (t ≡ u)
+one_stop_of {text = text} {b = b} {c = c} {t = t} {u = u} a e are also =
+    one_stop text b c t u (places b t a c u e (one_list text (b ++ t ∷ a) (c ++ u ∷ e) are also))
+
 -- tokens with which some text begins have none that stops it
-no_stop : (text : List ℕ) (tokens before : List Token) (token : Token) (after : List Token) → AreTokens text tokens →
+no_stop : {text : List ℕ} {tokens : List Token} (before : List Token) (token : Token) (after : List Token) → AreTokens text tokens →
     AreTokens text (before ++ token ∷ after) → SomeDeclarationsBegin deepest_level (terminals text tokens) →
     NoDeclarationsBegin deepest_level (terminals text (before ++ token ∷ [])) → ⊥
-no_stop text tokens before token after are k begins stops =
+no_stop {text = text} {tokens = tokens} before token after are k begins stops =
     no_more text before token after stops
     (subst (λ ts. SomeDeclarationsBegin deepest_level (terminals text ts)) (one_list text tokens (before ++ token ∷ after) are k) begins)
 
 one_wrong : (text : List ℕ) (x y : ℕ) → HasWrongToken text x → HasWrongToken text y → x ≡ y
 one_wrong text x y h k =
-    let same = one_stop text h.before k.before h.token k.token
-    (places h.before h.token h.after k.before k.token k.after (one_list text _ _ h.tokens_are k.tokens_are))
-    (record { begins = h.begins; stops = h.stops deepest_level }) (record { begins = k.begins; stops = k.stops deepest_level }) in
+    let same = one_stop_of h.after k.after h.tokens_are k.tokens_are (record { begins = h.begins; stops = h.stops deepest_level })
+    (record { begins = k.begins; stops = k.stops deepest_level }) in
     h.place ∙ ap (λ (t : Token). t.start) same.1 ∙ sym k.place
 
 one_form : (text : List ℕ) (x y : ℕ) → HasFormFault text x → HasFormFault text y → x ≡ y
 one_form text x y (inl h) (inl k) = one_wrong text x y h k
 one_form text x y (inl h) (inr k) =
-    absurd (no_stop text k.tokens h.before h.token h.after k.tokens_are h.tokens_are k.begins (h.stops deepest_level))
+    absurd (no_stop h.before h.token h.after k.tokens_are h.tokens_are k.begins (h.stops deepest_level))
 one_form text x y (inr h) (inl k) =
-    absurd (no_stop text h.tokens k.before k.token k.after h.tokens_are k.tokens_are h.begins (k.stops deepest_level))
+    absurd (no_stop k.before k.token k.after h.tokens_are k.tokens_are h.begins (k.stops deepest_level))
 one_form text x y (inr h) (inr k) = h.place ∙ sym k.place
 
 one_deep : (text : List ℕ) (x y : ℕ) → HasDeepFault text x → HasDeepFault text y → x ≡ y
 one_deep text x y h k =
-    let same = one_stop text h.before k.before h.token k.token
-    (places h.before h.token h.after k.before k.token k.after (one_list text _ _ h.tokens_are k.tokens_are))
-    (record { begins = h.begins; stops = h.stops }) (record { begins = k.begins; stops = k.stops }) in
+    let same = one_stop_of h.after k.after h.tokens_are k.tokens_are (record { begins = h.begins; stops = h.stops })
+    (record { begins = k.begins; stops = k.stops }) in
     h.place ∙ ap (λ (t : Token). t.start) same.1 ∙ sym k.place
 
 -- where a token is wrong for any number of levels, none is too deep
 no_form_and_deep : (text : List ℕ) (x y : ℕ) → HasFormFault text x → HasDeepFault text y → ⊥
 no_form_and_deep text x y (inl h) k =
-    let same = one_stop text h.before k.before h.token k.token
-    (places h.before h.token h.after k.before k.token k.after (one_list text _ _ h.tokens_are k.tokens_are))
-    (record { begins = h.begins; stops = h.stops deepest_level }) (record { begins = k.begins; stops = k.stops }) in
+    let same = one_stop_of h.after k.after h.tokens_are k.tokens_are (record { begins = h.begins; stops = h.stops deepest_level })
+    (record { begins = k.begins; stops = k.stops }) in
     h.stops k.levels_left k.goes_on.0 k.goes_on.1
     (subst (λ ts. IsText k.levels_left (terminals text ts ++ k.goes_on.0) k.goes_on.1)
     (ap (λ b. b ++ k.token ∷ []) (sym same.0) ∙ ap (λ t. h.before ++ t ∷ []) (sym same.1)) k.goes_on.2)
-no_form_and_deep text x y (inr h) k = no_stop text h.tokens k.before k.token k.after h.tokens_are k.tokens_are h.begins k.stops
+no_form_and_deep text x y (inr h) k = no_stop k.before k.token k.after h.tokens_are k.tokens_are h.begins k.stops
 
 -- ---- the first name that is wrong
 
@@ -127,21 +131,23 @@ one_named is_such text tokens ds s e x y h k =
     (h.starts ∙ ap (λ (t : Token). t.start) same ∙ sym k.starts, h.ends ∙ ap (λ (t : Token). t.end) same ∙ sym k.ends)
 
 -- the same in two derivations, which are one
-one_named_of : (is_such : List Declaration → Occurrence →
-    Bool) (text : List ℕ) (ts us : List Token) (own other : List Terminal) (ds es : List Declaration) (s e x y : ℕ) →
-    Derives text ts own ds → Derives text us other es →
+one_named_of : (is_such : List Declaration → Occurrence → Bool) {text : List ℕ} {ts us : List Token} {own other : List Terminal}
+    {ds es : List Declaration} {s e x y : ℕ} → Derives text ts own ds → Derives text us other es →
     IsFirstName (is_such ds) text ts ds s e → IsFirstName (is_such es) text us es x y → (s ≡ x) × (e ≡ y)
-one_named_of is_such text ts us own other ds es s e x y d f h k =
+one_named_of is_such {text = text} {ts = ts} {us = us} {own = own} {other = other} {ds = ds} {es = es} {s = s} {e = e} {x = x} {y = y} d f h k =
     one_named (is_such es) text us es s e x y
     (subst (λ qs. IsFirstName (is_such qs) text us qs s e) (one_derivation text ts us own other ds es d f).0
     (subst (λ qs. IsFirstName (is_such ds) text qs ds s e) (one_list text ts us d.tokens_are f.tokens_are) h)) k
 
+-- so two such refusals are one
+one_refusal : (refusal : ℕ → ℕ → SpecError) {s e x y : ℕ} → (s ≡ x) × (e ≡ y) → refusal s e ≡ refusal x y
+one_refusal refusal same = λ i. refusal (same.0 i) (same.1 i)
+
 -- where no name is such, none is the first
-none_named : (is_such : List Declaration → Occurrence →
-    Bool) (text : List ℕ) (ts us : List Token) (own other : List Terminal) (ds es : List Declaration) (s e : ℕ) →
-    Derives text ts own ds → Derives text us other es → IsFirstName (is_such ds) text ts ds s e →
+none_named : (is_such : List Declaration → Occurrence → Bool) {text : List ℕ} {ts us : List Token} {own other : List Terminal}
+    {ds es : List Declaration} {s e : ℕ} → Derives text ts own ds → Derives text us other es → IsFirstName (is_such ds) text ts ds s e →
     position (is_such es) (names_in es) ≡ None → ⊥
-none_named is_such text ts us own other ds es s e d f h none =
+none_named is_such {text = text} {ts = ts} {us = us} {own = own} {other = other} {ds = ds} {es = es} d f h none =
     let same : ds ≡ es = (one_derivation text ts us own other ds es d f).0 in
     let gone : position (is_such ds) (names_in ds) ≡ None =
     subst (λ qs. position (is_such qs) (names_in qs) ≡ None) (sym same) none in
@@ -174,8 +180,8 @@ one_cycle_place : (text : List ℕ) (s e x y : ℕ) → HasCycleFault text s e �
 one_cycle_place text s e x y h k =
     let same = one_derivation text h.tokens k.tokens h.own k.own h.declarations k.declarations h.derives k.derives in
     let name = one_cycle_of h.declarations k.declarations h.number k.number same.0 h.cycle k.cycle in
-    one_named_of (λ qs. is_head_of k.cycle.definition.name) text h.tokens k.tokens h.own k.own h.declarations k.declarations s e x y
-    h.derives k.derives (subst (λ n. IsFirstName (is_head_of n) text h.tokens h.declarations s e) name h.named) k.named
+    one_named_of (λ qs. is_head_of k.cycle.definition.name) h.derives k.derives
+    (subst (λ n. IsFirstName (is_head_of n) text h.tokens h.declarations s e) name h.named) k.named
 
 none_cyclic : (ds es : List Declaration) (i : ℕ) → ds ≡ es → IsFirstOnCycle (definitions_in ds) i → NoneOnCycle (definitions_in es) → ⊥
 none_cyclic ds es i same h =
@@ -263,67 +269,57 @@ stuck : (text : List ℕ) (e : SpecError) → IsOfText e → HasCause text e →
 stuck text (error.Byte at) of h k = no_tokens text (Byte at) h k.0 k.1
 stuck text (error.OpenComment at) of h k = no_tokens text (OpenComment at) h k.0 k.1
 stuck text (error.Form at) of (inl h) k =
-    no_stop text k.0 h.before h.token h.after k.3.tokens_are h.tokens_are (derived_begins text k.0 k.1 k.2 k.3) (h.stops deepest_level)
+    no_stop h.before h.token h.after k.3.tokens_are h.tokens_are (derived_begins text k.0 k.1 k.2 k.3) (h.stops deepest_level)
 stuck text (error.Form at) of (inr h) k =
     h.no_text deepest_level k.2
     (subst (λ ts. IsText deepest_level (terminals text ts) k.2) (one_list text k.0 h.tokens k.3.tokens_are h.tokens_are)
     (k.1, k.3.derived))
 stuck text (error.Deep at) of h k =
-    no_stop text k.0 h.before h.token h.after k.3.tokens_are h.tokens_are (derived_begins text k.0 k.1 k.2 k.3) h.stops
+    no_stop h.before h.token h.after k.3.tokens_are h.tokens_are (derived_begins text k.0 k.1 k.2 k.3) h.stops
 stuck text (error.Defined start end) of h k =
-    none_named (λ qs o. is_redefined o.role) text h.tokens k.0 h.own k.1 h.declarations k.2 start end h.derives k.3 h.named k.4
+    none_named (λ qs o. is_redefined o.role) h.derives k.3 h.named k.4
 stuck text (error.Cycle start end) of h k =
     none_cyclic h.declarations k.2 h.number (one_derivation text h.tokens k.0 h.own k.1 h.declarations k.2 h.derives k.3).0 h.cycle k.5
 stuck text (error.Kind start end) of h k =
-    none_named (λ qs. has_kind_fault (names_in qs)) text h.tokens k.0 h.own k.1 h.declarations k.2 start end h.derives k.3 h.named k.6
+    none_named (λ qs. has_kind_fault (names_in qs)) h.derives k.3 h.named k.6
 stuck text (error.Arity start end) of h k =
-    none_named (λ qs. has_arity_fault (heads_of qs) (names_in qs)) text h.tokens k.0 h.own k.1 h.declarations k.2 start end
-    h.derives k.3 h.named k.4.arities
+    none_named (λ qs. has_arity_fault (heads_of qs) (names_in qs)) h.derives k.3 h.named k.4.arities
 stuck text (error.DeepUse start end) of h k =
     let d = k.1 in
-    none_named (λ qs. is_use_too_deep (definitions_in qs)) text h.tokens d.tokens h.own d.own h.declarations d.declarations start end
-    h.derives d.derives h.named
+    none_named (λ qs. is_use_too_deep (definitions_in qs)) h.derives d.derives h.named
     (none_there (is_use_too_deep (definitions_in d.declarations)) (names_in d.declarations)
     (no_deep_use d.declarations d.named_well d.derives.derived d.expanded d.sections d.expands d.sections_are))
 stuck text error.Nodes of h k = nodes_refuse text h k.0 k.1
 stuck text error.NoMemory of h k = absurd of
 
+one_text : (text : List ℕ) (a b : TextError) → IsAnswer text (Err a) → IsAnswer text (Err b) → a ≡ b
+one_text text a b h k =
+    let same : Err a ≡ Err b = one_answer text (Err a) (Err b) h k in
+    cc
+
+abbrev of_text : TextError → SpecError
+of_text (Byte at) = error.Byte at
+of_text (OpenComment at) = error.OpenComment at
+of_text NoMemory = error.NoMemory
+
 at_one_stage : (text : List ℕ) (a b : SpecError) → stage a ≡ stage b → IsOfText a → HasCause text a → HasCause text b → a ≡ b
-at_one_stage text (error.Byte x) (error.Byte y) e of h k =
-    let same : Err (Byte x) ≡ Err (Byte y) = one_answer text (Err (Byte x)) (Err (Byte y)) h k in
-    cc
-at_one_stage text (error.Byte x) (error.OpenComment y) e of h k =
-    let same : Err (Byte x) ≡ Err (OpenComment y) = one_answer text (Err (Byte x)) (Err (OpenComment y)) h k in
-    cc
-at_one_stage text (error.OpenComment x) (error.Byte y) e of h k =
-    let same : Err (OpenComment x) ≡ Err (Byte y) = one_answer text (Err (OpenComment x)) (Err (Byte y)) h k in
-    cc
-at_one_stage text (error.OpenComment x) (error.OpenComment y) e of h k =
-    let same : Err (OpenComment x) ≡ Err (OpenComment y) = one_answer text (Err (OpenComment x)) (Err (OpenComment y)) h k in
-    cc
+at_one_stage text (error.Byte x) (error.Byte y) e of h k = ap of_text (one_text text (Byte x) (Byte y) h k)
+at_one_stage text (error.Byte x) (error.OpenComment y) e of h k = ap of_text (one_text text (Byte x) (OpenComment y) h k)
+at_one_stage text (error.OpenComment x) (error.Byte y) e of h k = ap of_text (one_text text (OpenComment x) (Byte y) h k)
+at_one_stage text (error.OpenComment x) (error.OpenComment y) e of h k = ap of_text (one_text text (OpenComment x) (OpenComment y) h k)
 at_one_stage text (error.Form x) (error.Form y) e of h k = ap error.Form (one_form text x y h k)
 at_one_stage text (error.Form x) (error.Deep y) e of h k = absurd (no_form_and_deep text x y h k)
 at_one_stage text (error.Deep x) (error.Form y) e of h k = absurd (no_form_and_deep text y x k h)
 at_one_stage text (error.Deep x) (error.Deep y) e of h k = ap error.Deep (one_deep text x y h k)
 at_one_stage text (error.Defined s f) (error.Defined x y) e of h k =
-    let same = one_named_of (λ qs o. is_redefined o.role) text h.tokens k.tokens h.own k.own h.declarations k.declarations s f x y
-    h.derives k.derives h.named k.named in
-    λ i. error.Defined (same.0 i) (same.1 i)
-at_one_stage text (error.Cycle s f) (error.Cycle x y) e of h k =
-    let same = one_cycle_place text s f x y h k in
-    λ i. error.Cycle (same.0 i) (same.1 i)
+    one_refusal error.Defined (one_named_of (λ qs o. is_redefined o.role) h.derives k.derives h.named k.named)
+at_one_stage text (error.Cycle s f) (error.Cycle x y) e of h k = one_refusal error.Cycle (one_cycle_place text s f x y h k)
 at_one_stage text (error.Kind s f) (error.Kind x y) e of h k =
-    let same = one_named_of (λ qs. has_kind_fault (names_in qs)) text h.tokens k.tokens h.own k.own h.declarations k.declarations s f x y
-    h.derives k.derives h.named k.named in
-    λ i. error.Kind (same.0 i) (same.1 i)
+    one_refusal error.Kind (one_named_of (λ qs. has_kind_fault (names_in qs)) h.derives k.derives h.named k.named)
 at_one_stage text (error.Arity s f) (error.Arity x y) e of h k =
-    let same = one_named_of (λ qs. has_arity_fault (heads_of qs) (names_in qs)) text h.tokens k.tokens h.own k.own h.declarations k.declarations s f x y
-    h.derives k.derives h.named k.named in
-    λ i. error.Arity (same.0 i) (same.1 i)
+    one_refusal error.Arity (one_named_of (λ qs. has_arity_fault (heads_of qs) (names_in qs)) h.derives k.derives h.named k.named)
 at_one_stage text (error.DeepUse s f) (error.DeepUse x y) e of h k =
-    let same = one_named_of (λ qs. is_use_too_deep (definitions_in qs)) text h.tokens k.tokens h.own k.own h.declarations k.declarations s f x y
-    h.derives k.derives h.named k.named in
-    λ i. error.DeepUse (same.0 i) (same.1 i)
+    one_refusal error.DeepUse (one_named_of (λ qs. is_use_too_deep (definitions_in qs)) h.derives k.derives h.named k.named)
 at_one_stage text error.Nodes error.Nodes e of h k = refl
 at_one_stage text error.NoMemory b e of h k = absurd of
 at_one_stage text a b e of h k = absurd (omega (arith, e))

@@ -26,7 +26,8 @@ use Rattle.tsl_reader.specs.Spells.{deepest_level, is_free, name_tokens, HasForm
 use Rattle.tsl_reader.specs.Spells.{IsDerived, Spells, HasTooManyNodes, most_formula_nodes}
 use Rattle.tsl_reader.specs.ReadText.{AreDeclared, AreExpanded}
 use Rattle.spec_syntax.specs.SyntaxView.{terminals_view}
-use Rattle.tsl_reader.proofs.DeclarationFaults.{form_is_within}
+use Rattle.spec_syntax.proofs.ExactDeclarations.{declarations_exact}
+use Rattle.spec_syntax.proofs.FirstFaults as first
 use Rattle.tsl_reader.proofs.Causes.{length_terminals, form_at_token, form_at_end, deep_at_token, deep_has_token}
 use Rattle.spec_syntax.proofs.ExactDeclarations.{declarations_derive}
 use Rattle.tsl_reader.proofs.NameBounds.{names_within}
@@ -84,7 +85,7 @@ derives text tokens xs ds rest are is h =
 pub form_left : (text : List ℕ) (tokens : List Token) (xs : List LentTerminal) (left : ℕ) → terminals_view xs ≡ terminals text tokens →
     declarations deepest_level (terminals_view xs) ≡ Err (form left) → left ≤ length tokens
 form_left text tokens xs left is h =
-    omega (arith, form_is_within deepest_level (terminals text tokens) left (rw is at h), length_terminals text tokens)
+    omega (arith, first.form_within (declarations_exact deepest_level) (terminals text tokens) left (rw is at h), length_terminals text tokens)
 
 pub deep_left : (text : List ℕ) (tokens : List Token) (xs : List LentTerminal) (left : ℕ) → terminals_view xs ≡ terminals text tokens →
     declarations deepest_level (terminals_view xs) ≡ Err (deep left) → left ≤ length tokens

@@ -15,7 +15,7 @@ use Rattle.spec_syntax.specs.declared.syntax.Word.{Word}
 use Rattle.spec_syntax.specs.declared.syntax.Word.TheVariants.{Assume, Guarantee, Always, Initially, True, False, X, F, G, U, W, R, A}
 use Rattle.spec_syntax.specs.Syntax.{Terminal, free, word, mark, word_of, free_unless, terminal_of}
 use Rattle.spec_syntax.specs.Texts.{terminal_at, terminals}
-use Rattle.tsl_reader.proofs.UseTexts.{free_texts}
+use Rattle.spec_syntax.specs.Written.{free_texts}
 
 abbrev pub IsUsable : List ℕ → Type 0
 IsUsable text = IsTrue (is_usable text)

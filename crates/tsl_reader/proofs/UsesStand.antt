@@ -13,7 +13,7 @@ use Rattle.named_formulas.specs.SectionExpansion.{EachFormula}
 use Rattle.tsl_reader.specs.Naming.{Use, count_of_arguments, term_uses, terms_uses, uses, members_uses}
 use Rattle.tsl_reader.specs.Naming.{section_uses, all_uses, written_uses}
 
-count_same : (ts : TermsSyntax) → count_of ts ≡ count_of_arguments ts
+pub count_same : (ts : TermsSyntax) → count_of ts ≡ count_of_arguments ts
 count_same no_terms = refl
 count_same (more_terms t ts) = omega (arith, count_same ts)
 

@@ -1,19 +1,20 @@
 -- A text without a definition spells what its sections say, with the names as they stand in them.
-use Rattle.std.proofs.Common.{◌≡◌, ℕ, suc, Bool, true, false, not, List, [], ◌∷◌, ◌++◌, map, refl, arith, ap, sym, ◌∙◌, subst}
+use Rattle.std.proofs.Common.{◌≡◌, ℕ, suc, Bool, false, not, List, [], ◌∷◌, ◌++◌, map, refl, ap, sym, ◌∙◌, subst}
 use Rattle.std.specs.Prelude.{Option, Some, None, flat_map, position, slice_get, option_map, cond, ◌&&◌, ◌||◌}
-use Rattle.std.proofs.lemmas.Bool.{false≢true}
+use Rattle.std.proofs.Math.Bool.{and-false}
 use Rattle.std.specs.List.{AllByRecursion, list_any}
 use Rattle.std.specs.Option.{is_some, option_map_or}
 use Rattle.std.proofs.lemmas.Option.{none-some, slice_get-map}
 use Rattle.std.proofs.lemmas.List.{map-append}
 use Rattle.std.proofs.lemmas.Iterator.Adapters.{position_from-zero}
-use Rattle.sequence.proofs.Each.{each_at, each_joined}
+use Rattle.sequence.proofs.Each.{each_at, each_from_places, each_joined, each_flat_map}
+use Rattle.sequence.proofs.Options.{none_is}
 use Rattle.tsl_text.specs.declared.Token.{Token}
 use Rattle.tsl_text.specs.Division.{AreTokens}
 use Rattle.tsl_terms.specs.declared.names.NameKind.TheVariants.{Signal, Predicate, Function}
 use Rattle.tsl_terms.specs.Name.{Name, same_kind}
 use Rattle.tsl_terms.specs.Clashes.{first_uses, alike_in_kind, same_arity, HasNoClash}
-use Rattle.tsl_terms.proofs.FirstUses.{first_of, first_some, named_first, clash_of}
+use Rattle.tsl_terms.proofs.FirstUses.{first_some, named_first}
 use Rattle.tsl_terms.specs.SpecTree.{SpecTree}
 use Rattle.spec_syntax.specs.Syntax.{Terminal, free, word, mark, TermSyntax, alone, applied, grouped_term, TermsSyntax, no_terms, more_terms}
 use Rattle.spec_syntax.specs.Syntax.{FormulaSyntax, truth, falsehood, bare, tested, updated, grouped, under, between}
@@ -24,14 +25,12 @@ use Rattle.spec_syntax.specs.Grammar.{AreSections}
 use Rattle.spec_syntax.specs.Texts.{terminals}
 use Rattle.spec_syntax.proofs.DeclarationLaws.{sections_are_all}
 use Rattle.named_formulas.specs.DefinitionView.{named_in}
-use Rattle.named_formulas.specs.Expansion.{passed_names}
-use Rattle.named_formulas.specs.Occurrences.{count_of}
 use Rattle.named_formulas.specs.TextExpansion.{Expands, nothing, kept, used}
 use Rattle.named_formulas.specs.UseLevels.{level_of_right}
 use Rattle.named_formulas.specs.WellUsed.{as_written}
 use Rattle.declared_names.specs.declared.occurrence.Role.TheVariants.{Plain}
 use Rattle.declared_names.specs.Heads.{definitions_in, heads_in}
-use Rattle.declared_names.specs.Occurrences.{Occurrence, of_section, role_in, atom_role, occurrence, occurrences, term_occurrences}
+use Rattle.declared_names.specs.Occurrences.{Occurrence, Scope, of_section, atom_role, occurrences, term_occurrences}
 use Rattle.declared_names.specs.Occurrences.{terms_occurrences}
 use Rattle.declared_names.specs.Occurrences.{formula_occurrences, members_occurrences, section_occurrences}
 use Rattle.declared_names.specs.Faults.{is_plain, is_redefined, name_of, plain_names, kind_fault_as, arity_fault_as}
@@ -40,13 +39,16 @@ use Rattle.declared_names.specs.Faults.{is_unlike_name}
 use Rattle.declared_names.specs.WellDeclared.{AreNamedWell, NoneOnCycle, heads_of, names_in}
 use Rattle.declared_names.proofs.FirstPlain.{unlike_is}
 use Rattle.declared_names.proofs.NameTests.{any_from}
-use Rattle.tsl_reader.specs.Naming.{Use, use_as, uses, term_uses, terms_uses, members_uses, section_uses, all_uses, written_uses, count_of_arguments}
+use Rattle.tsl_reader.specs.Naming.{Use, uses, term_uses, terms_uses, members_uses, section_uses, all_uses, written_uses}
 use Rattle.tsl_reader.specs.Naming.{names_of, numbered_list, formulas_of_part}
 use Rattle.tsl_reader.specs.Spells.{IsDerived, deepest_level}
+use Rattle.declared_names.proofs.EachName.{each_name}
+use Rattle.tsl_reader.proofs.Known.{like_first}
+use Rattle.tsl_reader.proofs.UsesStand.{count_same}
 
 -- ---- no definition
 
-abbrev as_text : List SectionSyntax → List Declaration
+abbrev pub as_text : List SectionSyntax → List Declaration
 as_text ss = map the_section ss
 
 none_defined : (ss : List SectionSyntax) → definitions_in (as_text ss) ≡ []
@@ -58,7 +60,7 @@ no_heads [] = refl
 no_heads (s ∷ ss) = no_heads ss
 
 -- where nothing is defined, terminals expand to themselves
-expand_alone : (xs : List Terminal) → Expands (as_written (named_in [])) xs xs
+pub expand_alone : (xs : List Terminal) → Expands (as_written (named_in [])) xs xs
 expand_alone [] = nothing
 expand_alone (free x ∷ xs) = kept (free x) refl (expand_alone xs)
 expand_alone (word w ∷ xs) = kept (word w) refl (expand_alone xs)
@@ -83,86 +85,78 @@ expands_only_to_itself ss xs ys expands =
 abbrev ArePlain : List Occurrence → List Name → Type 0
 ArePlain os ns = (map name_of os ≡ ns) × AllByRecursion (λ (o : Occurrence). o.role ≡ Plain) os
 
-both_plain : (os ps : List Occurrence) (ms ns : List Name) → ArePlain os ms → ArePlain ps ns → ArePlain (os ++ ps) (ms ++ ns)
-both_plain os ps ms ns (one, plain) (other, rest) = (
-  map-append name_of os ps ∙ ap (λ xs. xs ++ map name_of ps) one ∙ ap (λ ys. ms ++ ys) other,
-  each_joined (λ (o : Occurrence). o.role ≡ Plain) os ps plain rest,
-)
-
--- the same of lists of uses
 abbrev name_in : Use → Name
 name_in u = u.name
 
-joined_plain : (os ps : List Occurrence) (us vs : List Use) → ArePlain os (map name_in us) → ArePlain ps (map name_in vs) →
-    ArePlain (os ++ ps) (map name_in (us ++ vs))
-joined_plain os ps us vs one other =
-    subst (ArePlain (os ++ ps)) (sym (map-append name_in us vs)) (both_plain os ps (map name_in us) (map name_in vs) one other)
+joined_names : (os ps : List Occurrence) (us vs : List Use) → map name_of os ≡ map name_in us → map name_of ps ≡ map name_in vs →
+    map name_of (os ++ ps) ≡ map name_in (us ++ vs)
+joined_names os ps us vs h k = map-append name_of os ps ∙ (λ i. h i ++ k i) ∙ sym (map-append name_in us vs)
 
-counted : (ts : TermsSyntax) → count_of ts ≡ count_of_arguments ts
-counted no_terms = refl
-counted (more_terms t ts) = omega (arith, counted ts)
-
-front_plain : (o : Occurrence) (os : List Occurrence) (u : Use) (us : List Use) → name_of o ≡ u.name → o.role ≡ Plain →
-    ArePlain os (map name_in us) → ArePlain (o ∷ os) (map name_in (u ∷ us))
-front_plain o os u us same plain rest = ((λ i. same i ∷ rest.0 i), (plain, rest.1))
+abbrev s : Scope
+s = of_section []
 
 mutual
-  term_plain : (level : ℕ) (t : TermSyntax) → ArePlain (term_occurrences (of_section []) level t) (map name_in (term_uses t))
-  term_plain level (alone x) = (refl, (refl, tt))
-  term_plain level (applied f ts) =
-      front_plain (occurrence (of_section []) level (role_in (of_section []) f) Function (count_of ts) f)
-      (terms_occurrences (of_section []) level ts) (use_as Function f (count_of_arguments ts)) (terms_uses ts)
-      (ap (λ n. record { text = f; kind = Function; arity = n }) (counted ts)) refl (terms_plain level ts)
-  term_plain level (grouped_term t) = term_plain level t
+  term_names : (level : ℕ) (t : TermSyntax) → map name_of (term_occurrences s level t) ≡ map name_in (term_uses t)
+  term_names level (alone x) = refl
+  term_names level (applied f ts) = λ i. (record { text = f; kind = Function; arity = count_same ts i }) ∷ terms_names level ts i
+  term_names level (grouped_term t) = term_names level t
 
-  terms_plain : (level : ℕ) (ts : TermsSyntax) → ArePlain (terms_occurrences (of_section []) level ts) (map name_in (terms_uses ts))
-  terms_plain level no_terms = (refl, tt)
-  terms_plain level (more_terms t ts) =
-      joined_plain (term_occurrences (of_section []) level t) (terms_occurrences (of_section []) level ts) (term_uses t) (terms_uses ts)
-      (term_plain level t) (terms_plain level ts)
+  terms_names : (level : ℕ) (ts : TermsSyntax) → map name_of (terms_occurrences s level ts) ≡ map name_in (terms_uses ts)
+  terms_names level no_terms = refl
+  terms_names level (more_terms t ts) =
+      joined_names (term_occurrences s level t) (terms_occurrences s level ts) (term_uses t) (terms_uses ts) (term_names level t)
+      (terms_names level ts)
 
-plain_atom : (p : List ℕ) (names : Option (List (List ℕ))) → atom_role (of_section []) p names ≡ Plain
+mutual
+  formula_names : (level : ℕ) (a : FormulaSyntax) → map name_of (formula_occurrences s level a) ≡ map name_in (uses a)
+  formula_names level truth = refl
+  formula_names level falsehood = refl
+  formula_names level (bare x) = refl
+  formula_names level (tested p ts) = λ i. (record { text = p; kind = Predicate; arity = count_same ts i }) ∷ terms_names level ts i
+  formula_names level (updated x t) = ap (λ ns. (record { text = x; kind = Signal; arity = 0 }) ∷ ns) (term_names level t)
+  formula_names level (grouped a) = formula_names (suc level) a
+  formula_names level (under op a) = formula_names (suc level) a
+  formula_names level (between op a b) =
+      joined_names (formula_occurrences s level a) (formula_occurrences s (level_of_right op level) b) (uses a) (uses b)
+      (formula_names level a) (formula_names (level_of_right op level) b)
+  formula_names level (joined op fs) = members_names level fs
+
+  members_names : (level : ℕ) (fs : FormulasSyntax) → map name_of (members_occurrences s level fs) ≡ map name_in (members_uses fs)
+  members_names level no_formulas = refl
+  members_names level (more_formulas f fs) =
+      joined_names (formula_occurrences s level f) (members_occurrences s level fs) (uses f) (members_uses fs) (formula_names level f)
+      (members_names level fs)
+
+formulas_names : (fs : List FormulaSyntax) → map name_of (flat_map (formula_occurrences s 0) fs) ≡ map name_in (flat_map uses fs)
+formulas_names [] = refl
+formulas_names (f ∷ fs) =
+    joined_names (formula_occurrences s 0 f) (flat_map (formula_occurrences s 0) fs) (uses f) (flat_map uses fs) (formula_names 0 f)
+    (formulas_names fs)
+
+plain_atom : (p : List ℕ) (names : Option (List (List ℕ))) → atom_role s p names ≡ Plain
 plain_atom p None = refl
 plain_atom p (Some names) = refl
 
-mutual
-  formula_plain : (level : ℕ) (a : FormulaSyntax) → ArePlain (formula_occurrences (of_section []) level a) (map name_in (uses a))
-  formula_plain level truth = (refl, tt)
-  formula_plain level falsehood = (refl, tt)
-  formula_plain level (bare x) = (refl, (refl, tt))
-  formula_plain level (tested p ts) =
-      front_plain (occurrence (of_section []) level (atom_role (of_section []) p (passed_names ts)) Predicate (count_of ts) p)
-      (terms_occurrences (of_section []) level ts) (use_as Predicate p (count_of_arguments ts)) (terms_uses ts)
-      (ap (λ n. record { text = p; kind = Predicate; arity = n }) (counted ts)) (plain_atom p (passed_names ts)) (terms_plain level ts)
-  formula_plain level (updated x t) =
-      front_plain (occurrence (of_section []) level (role_in (of_section []) x) Signal 0 x) (term_occurrences (of_section []) level t)
-      (use_as Signal x 0) (term_uses t) refl refl (term_plain level t)
-  formula_plain level (grouped a) = formula_plain (suc level) a
-  formula_plain level (under op a) = formula_plain (suc level) a
-  formula_plain level (between op a b) =
-      joined_plain (formula_occurrences (of_section []) level a) (formula_occurrences (of_section []) (level_of_right op level) b) (uses a) (uses b)
-      (formula_plain level a) (formula_plain (level_of_right op level) b)
-  formula_plain level (joined op fs) = members_plain level fs
-
-  members_plain : (level : ℕ) (fs : FormulasSyntax) → ArePlain (members_occurrences (of_section []) level fs) (map name_in (members_uses fs))
-  members_plain level no_formulas = (refl, tt)
-  members_plain level (more_formulas f fs) =
-      joined_plain (formula_occurrences (of_section []) level f) (members_occurrences (of_section []) level fs) (uses f) (members_uses fs)
-      (formula_plain level f) (members_plain level fs)
-
-formulas_plain : (fs : List FormulaSyntax) → ArePlain (flat_map (formula_occurrences (of_section []) 0) fs) (map name_in (flat_map uses fs))
-formulas_plain [] = (refl, tt)
-formulas_plain (f ∷ fs) =
-    joined_plain (formula_occurrences (of_section []) 0 f) (flat_map (formula_occurrences (of_section []) 0) fs) (uses f) (flat_map uses fs)
-    (formula_plain 0 f) (formulas_plain fs)
+formula_plain : (f : FormulaSyntax) → AllByRecursion (λ (o : Occurrence). o.role ≡ Plain) (formula_occurrences s 0 f)
+formula_plain f = each_name s (λ (o : Occurrence). o.role ≡ Plain) (record {
+  signal = λ l x. refl;
+  function = λ l n g. refl;
+  atom = λ l x u. refl;
+  test = λ l n p names u. plain_atom p names;
+}) 0 f
 
 occurrences_plain : (ss : List SectionSyntax) → ArePlain (occurrences [] (as_text ss)) (written_uses ss)
 occurrences_plain [] = (refl, tt)
-occurrences_plain (s ∷ ss) =
-    joined_plain (section_occurrences [] s) (occurrences [] (as_text ss)) (section_uses s) (all_uses ss)
-    (formulas_plain s.formulas) (occurrences_plain ss)
+occurrences_plain (r ∷ ss) = (
+  joined_names (section_occurrences [] r) (occurrences [] (as_text ss)) (section_uses r) (all_uses ss) (formulas_names r.formulas)
+      (occurrences_plain ss).0,
+  each_joined (λ (o : Occurrence). o.role ≡ Plain) (section_occurrences [] r) (occurrences [] (as_text ss))
+      (each_flat_map (λ (o : Occurrence). o.role ≡ Plain) (formula_occurrences s 0) r.formulas
+      (each_from_places _ r.formulas (λ i f at. formula_plain f)))
+      (occurrences_plain ss).1,
+)
 
-names_plain : (ss : List SectionSyntax) → ArePlain (names_in (as_text ss)) (written_uses ss)
+pub names_plain : (ss : List SectionSyntax) → ArePlain (names_in (as_text ss)) (written_uses ss)
 names_plain ss =
     subst (λ heads. ArePlain (occurrences (first_uses heads) (as_text ss)) (written_uses ss)) (sym (no_heads ss)) (occurrences_plain ss)
 
@@ -179,18 +173,7 @@ none_any p (x ∷ xs) none =
     ap (λ b. b || list_any p xs) (none 0 x refl) ∙ none_any p xs (λ i y there. none (suc i) y there)
 
 no_place : {X : Type 0} (p : X → Bool) (xs : List X) → ((i : ℕ) (x : X) → slice_get xs i ≡ Some x → p x ≡ false) → position p xs ≡ None
-no_place p xs none = by (position p xs) (ap is_some (position_from-zero p xs) ∙ any_from p 0 xs ∙ none_any p xs none) where
-  by : (found : Option ℕ) → is_some found ≡ false → found ≡ None
-  by None h = refl
-  by (Some n) h = absurd (false≢true (sym h))
-
--- the first use of a name is like each use
-like_first : (alike : Name → Name → Bool) (us : List Name) → HasNoClash alike us → (at : ℕ) (u f : Name) → slice_get us at ≡ Some u →
-    first_of us u.text ≡ Some f → alike f u ≡ true
-like_first alike us none at u f there first = by (alike f u) refl where
-  by : (is : Bool) → alike f u ≡ is → is ≡ true
-  by true e = refl
-  by false e = absurd (none at (clash_of alike us at u f there first e))
+no_place p xs none = none_is (position p xs) (ap is_some (position_from-zero p xs) ∙ any_from p 0 xs ∙ none_any p xs none)
 
 module _ (os : List Occurrence) (us : List Name) (plain : ArePlain os us) where
   names_are : plain_names os ≡ us
@@ -221,11 +204,7 @@ module _ (os : List Occurrence) (us : List Name) (plain : ArePlain os us) where
   no_arity_fault heads none =
       no_place (has_arity_fault heads os) os
       (λ i o there. ap (λ r. arity_fault_as r o (is_unlike_name same_arity heads o) (is_unlike_first same_arity os o)) (plain_at i o there)
-      ∙ ap (λ b. not (same_kind o.kind Signal) && b) (like_the_first same_arity none i o there) ∙ none_of (not (same_kind o.kind Signal)))
-    where
-      none_of : (b : Bool) → (b && false) ≡ false
-      none_of true = refl
-      none_of false = refl
+      ∙ ap (λ b. not (same_kind o.kind Signal) && b) (like_the_first same_arity none i o there) ∙ and-false (not (same_kind o.kind Signal)))
 
 pub named_well : (ss : List SectionSyntax) → HasNoClash alike_in_kind (written_uses ss) → HasNoClash same_arity (written_uses ss) →
     AreNamedWell (as_text ss)

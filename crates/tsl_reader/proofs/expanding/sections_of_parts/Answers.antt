@@ -17,7 +17,7 @@ check_names-requires-clause-ordered c =
     let none : left.items ≡ [] = no_members left.items (omega (arith, count, fits)) in (
       (map section_syntax c.args.parts.sections.items),
       [],
-      none_to_order c.args.text.now c.args.tokens.now c.args.names.now.heads (map occurrence_of c.args.names.now.occurrences.items) (map section_syntax c.args.parts.sections.items)
+      none_to_order
           (subst (λ ds. AreTextParts c.args.text.now c.args.tokens.now c.args.names.now.heads (map occurrence_of c.args.names.now.occurrences.items) (map section_syntax c.args.parts.sections.items)
           (map definition_of ds)) none c.requires.parts),
     )
@@ -30,7 +30,7 @@ returns-clause-expanded c =
     let none : left.items ≡ [] = no_members left.items (omega (arith, count, fits)) in
     plain_expanded c.args.text.now c.args.tokens.now c.args.names.now.heads (map occurrence_of c.args.names.now.occurrences.items) (map section_syntax c.args.parts.sections.items)
     (record {
-      ordered = none_to_order c.args.text.now c.args.tokens.now c.args.names.now.heads (map occurrence_of c.args.names.now.occurrences.items) (map section_syntax c.args.parts.sections.items)
+      ordered = none_to_order
           (subst (λ ds. AreTextParts c.args.text.now c.args.tokens.now c.args.names.now.heads (map occurrence_of c.args.names.now.occurrences.items) (map section_syntax c.args.parts.sections.items)
           (map definition_of ds)) none c.requires.parts);
       kinds = c.in_ok-check_names.ensures.kinds;

@@ -7,14 +7,12 @@ use Rattle.tsl_reader.proofs.text_names.check_heads.Goals as goal
 
 pub returns-in-Some-clause-cause : goal.returns-in-Some-clause-cause
 returns-in-Some-clause-cause c =
-    head_told c.args.text.now c.args.tokens.now c.args.names.now.heads (map occurrence_of c.args.names.now.occurrences.items)
-    c.first_head_fault.result c.in-Some.token c.requires.named
+    head_told c.requires.named
     (c.first_head_fault.ensures ∙ ap (λ os. position (λ o. is_redefined o.role) (map occurrence_of os)) c.deref.ensures.value)
     (sym c.in-Some.is ∙ c.told_token.ensures)
 
 pub returns-in-None-clause-once : goal.returns-in-None-clause-once
 returns-in-None-clause-once c =
-    no_head_fault c.args.text.now c.args.tokens.now c.args.names.now.heads (map occurrence_of c.args.names.now.occurrences.items)
-    c.first_head_fault.result c.requires.named
+    no_head_fault c.requires.named
     (c.first_head_fault.ensures ∙ ap (λ os. position (λ o. is_redefined o.role) (map occurrence_of os)) c.deref.ensures.value)
     (sym c.in-None.is ∙ c.told_token.ensures)

@@ -18,18 +18,15 @@ plain_names-requires c =
 
 pub returns-in-Some-clause-cause : goal.returns-in-Some-clause-cause
 returns-in-Some-clause-cause c =
-    kind_told c.args.text.now c.args.tokens.now c.args.names.now.heads (map occurrence_of c.args.names.now.occurrences.items)
-    c.requires.ordered.0 c.requires.ordered.1 c.first_kind_fault-wrong.result c.in-Some.token c.requires.ordered.2
+    kind_told c.requires.ordered.2
     (c.first_kind_fault-wrong.ensures
     ∙ ap (λ os. position (has_kind_fault (map occurrence_of os)) (map occurrence_of os)) c.deref-2.ensures.value)
     (sym c.in-Some.is ∙ c.told_token.ensures)
 
 pub returns-in-Some-told_token-clause-cause : goal.returns-in-Some-told_token-clause-cause
 returns-in-Some-told_token-clause-cause c =
-    arity_told c.args.text.now c.args.tokens.now c.args.names.now.heads (map occurrence_of c.args.names.now.occurrences.items)
-    c.requires.ordered.0 c.requires.ordered.1 c.first_arity_fault-wrong.result c.in-Some-told_token.token c.requires.ordered.2
-    (no_kind_fault c.args.text.now c.args.tokens.now c.args.names.now.heads (map occurrence_of c.args.names.now.occurrences.items)
-    c.requires.ordered.0 c.requires.ordered.1 c.first_kind_fault-wrong.result c.requires.ordered.2
+    arity_told c.requires.ordered.2
+    (no_kind_fault c.requires.ordered.2
     (c.first_kind_fault-wrong.ensures
     ∙ ap (λ os. position (has_kind_fault (map occurrence_of os)) (map occurrence_of os)) c.deref-2.ensures.value)
     (sym c.in_default.is ∙ c.told_token.ensures))
@@ -39,16 +36,14 @@ returns-in-Some-told_token-clause-cause c =
 
 pub returns-clause-kinds : goal.returns-clause-kinds
 returns-clause-kinds c =
-    no_kind_fault c.args.text.now c.args.tokens.now c.args.names.now.heads (map occurrence_of c.args.names.now.occurrences.items)
-    c.requires.ordered.0 c.requires.ordered.1 c.first_kind_fault-wrong.result c.requires.ordered.2
+    no_kind_fault c.requires.ordered.2
     (c.first_kind_fault-wrong.ensures
     ∙ ap (λ os. position (has_kind_fault (map occurrence_of os)) (map occurrence_of os)) c.deref-2.ensures.value)
     (sym c.in_default.is ∙ c.told_token.ensures)
 
 pub returns-clause-arities : goal.returns-clause-arities
 returns-clause-arities c =
-    no_arity_fault c.args.text.now c.args.tokens.now c.args.names.now.heads (map occurrence_of c.args.names.now.occurrences.items)
-    c.requires.ordered.0 c.requires.ordered.1 c.first_arity_fault-wrong.result c.requires.ordered.2
+    no_arity_fault c.requires.ordered.2
     (c.first_arity_fault-wrong.ensures
     ∙ ap (λ os. position (has_arity_fault c.args.names.now.heads (map occurrence_of os)) (map occurrence_of os)) c.deref-3.ensures.value)
     (sym c.in_default-told_token.is ∙ c.told_token-2.ensures)

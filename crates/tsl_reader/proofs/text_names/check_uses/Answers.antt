@@ -12,7 +12,7 @@ returns-in-Some-clause-cause c =
     let all = map occurrence_of c.args.names.now.occurrences.items in
     let levels = c.deref.ensures.value ∙ c.in_ok-levels.ensures in
     let ds = c.requires.well.1 in
-    deep_told c.args.text.now c.args.tokens.now heads all c.requires.well.0 ds c.first_deep_use-deep.result c.in-Some.token c.requires.well.2
+    deep_told c.requires.well.2
     (c.first_deep_use-deep.ensures ∙ (λ i. position (is_deep_use heads (levels i)) (map occurrence_of (c.deref-2.ensures.value i)))
     ∙ first_by_levels heads (levels_of c.args.sizes.now) ds (levels_are heads ds c.args.sizes.now c.requires.well.3) all)
     (sym c.in-Some.is ∙ c.told_token.ensures)
@@ -22,8 +22,7 @@ returns-clause-within c = λ ds are.
     let heads = c.args.names.now.heads in
     let all = map occurrence_of c.args.names.now.occurrences.items in
     let levels = c.deref.ensures.value ∙ c.in_ok-levels.ensures in
-    no_deep_name c.args.text.now c.args.tokens.now heads all c.requires.well.0 ds c.requires.well.1 c.first_deep_use-deep.result
-    c.requires.well.2
+    no_deep_name ds c.requires.well.2
     (c.first_deep_use-deep.ensures ∙ (λ i. position (is_deep_use heads (levels i)) (map occurrence_of (c.deref-2.ensures.value i)))
     ∙ first_by_levels heads (levels_of c.args.sizes.now) ds (levels_are heads ds c.args.sizes.now are) all)
     (sym c.in-None.is ∙ c.told_token.ensures)

@@ -1,6 +1,5 @@
 use Rattle.std.proofs.Common.{map, sym, ◌∙◌}
 use Rattle.std.specs.Prelude.{position}
-use Rattle.named_formulas.specs.DefinitionView.{definition_of}
 use Rattle.declared_names.specs.Faults.{is_head_of}
 use Rattle.declared_names.specs.OccurrenceView.{occurrence_of}
 use Rattle.tsl_reader.proofs.TextParts.{named_at, cycle_told, cycle_stands}
@@ -10,8 +9,7 @@ pub unreachable-requires : goal.unreachable-requires
 unreachable-requires c =
     let name = named_at c.args.definitions.now c.args.number c.index-definitions-number.result c.requires.cycle.definition
     c.requires.cycle.here in
-    cycle_stands c.args.text.now c.args.tokens.now c.args.names.now.heads (map occurrence_of c.args.names.now.occurrences.items)
-    c.requires.parts.0 (map definition_of c.args.definitions.now) c.args.number c.head_place.result c.requires.parts.1 c.requires.cycle
+    cycle_stands c.requires.parts.1 c.requires.cycle
     (c.head_place.ensures ∙ (λ i. position (is_head_of (name i)) (map occurrence_of (c.deref.ensures.value i))))
     (sym c.in-None.is ∙ c.told_token.ensures)
 
@@ -19,8 +17,6 @@ pub returns : goal.returns
 returns c =
     let name = named_at c.args.definitions.now c.args.number c.index-definitions-number.result c.requires.cycle.definition
     c.requires.cycle.here in
-    cycle_told c.args.text.now c.args.tokens.now c.args.names.now.heads (map occurrence_of c.args.names.now.occurrences.items)
-    c.requires.parts.0 (map definition_of c.args.definitions.now) c.args.number c.head_place.result c.in-Some.token c.requires.parts.1
-    c.requires.cycle
+    cycle_told c.requires.parts.1 c.requires.cycle
     (c.head_place.ensures ∙ (λ i. position (is_head_of (name i)) (map occurrence_of (c.deref.ensures.value i))))
     (sym c.in-Some.is ∙ c.told_token.ensures)
