@@ -16,7 +16,8 @@ use Rattle.tool_ends.specs.Statuses.{is_answer}
 use Rattle.tool_ends.proofs.Ending.{answer_told}
 use Rattle.tool_ends.proofs.Replying.{status_of, text_of, comes_of_bytes, some_byte}
 use Rattle.solve_tool.specs.declared.refusal.Refusal.{Refusal}
-use Rattle.solve_tool.specs.declared.refusal.Refusal.TheVariants.{OtherWords, Unread, MalformedAt, TooManyBytes, TooManyVariables, TooManyClauses}
+use Rattle.solve_tool.specs.declared.refusal.Refusal.TheVariants.{OtherWords, Unread, MalformedAt, TooManyBytes}
+use Rattle.solve_tool.specs.declared.refusal.Refusal.TheVariants.{TooManyVariables, TooManyClauses}
 use Rattle.solve_tool.specs.declared.request.Request.{Request}
 use Rattle.solve_tool.specs.declared.request.TheConstants.{MOST_BYTES}
 use Rattle.solve_tool.specs.Ends.{IsSolverReply, SolverEnds}
@@ -43,11 +44,12 @@ pub record Says (reply : Reply) : Type 0 where
 refusal_says : (refusal : Refusal) {reply : Reply} → reply ≡ refusal_reply refusal → reply.text ≢ []
 refusal_says refusal is e = some_byte (refusal_words refusal) 10 (sym (text_of is) ∙ e)
 
-refusal_comes : (refusal : Refusal) {reply : Reply} → comes_of_bytes (refusal_status refusal) ≡ true → reply ≡ refusal_reply refusal → Says reply
+refusal_comes : (refusal : Refusal) {reply : Reply} → comes_of_bytes (refusal_status refusal) ≡ true →
+    reply ≡ refusal_reply refusal → Says reply
 refusal_comes refusal comes is = record { comes = ap comes_of_bytes (status_of is) ∙ comes; text = refusal_says refusal is }
 
-tells_unsatisfiable : (log : Bool) (variables : ℕ) (clauses : List (List Lit)) (text : List ℕ) → TellsUnsatisfiable log variables clauses text →
-    text ≢ []
+tells_unsatisfiable : (log : Bool) (variables : ℕ) (clauses : List (List Lit)) (text : List ℕ) →
+    TellsUnsatisfiable log variables clauses text → text ≢ []
 tells_unsatisfiable false variables clauses text h e = let never : [] ≡ codes "s UNSATISFIABLE\n" = sym e ∙ h in absurd cc
 tells_unsatisfiable true variables clauses text h e =
     let whole = sym e ∙ h.line.split in

@@ -40,7 +40,8 @@ module _ {E : Type 0} (Outcome : List ℕ → Reply → Type 0) (source : Effect
 
   -- a reply to bytes that were read, or that may be any
   pub reply_to_bytes : {P : Reply → Type 0} (bytes : (b : List ℕ) × ContentsAre source.old b) → NeverFailed source →
-      ((reply : Reply) → P reply → Outcome bytes.0 reply × (comes_of_bytes reply.status ≡ true)) → IfOk r P → IfOk r (IsReplyOf Outcome source)
+      ((reply : Reply) → P reply → Outcome bytes.0 reply × (comes_of_bytes reply.status ≡ true)) → IfOk r P →
+      IfOk r (IsReplyOf Outcome source)
   reply_to_bytes bytes count replies = IfOk-weaker r _ _ (λ reply h.
       let has = replies reply h in
       record { bytes = bytes.0; told = bytes.1; outcome = has.0; count = counted reply.status source has.1 count })
