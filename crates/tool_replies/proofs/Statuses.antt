@@ -1,5 +1,5 @@
 -- The statuses and texts of replies at faults.
-use Rattle.std.proofs.Common.{◌≡◌, ◌≢◌, ℕ, Bool, true, false, List, [], ◌∷◌, ◌++◌, refl, ap, sym, ◌∙◌}
+use Rattle.std.proofs.Common.{◌≡◌, ◌≢◌, ℕ, true, false, List, [], refl, ap, sym, ◌∙◌}
 use Rattle.program_check.specs.declared.verdict.Limit.{Limit}
 use Rattle.program_check.specs.declared.verdict.Limit.TheVariants.{Predicates, Bits, Choices, States, Edges, Vectors, Clauses, Branches}
 use Rattle.tsl_reader.specs.declared.SpecError.{SpecError}

@@ -1,6 +1,6 @@
 -- What a reply to bytes is, and what follows of how a run ends.
-use Rattle.std.proofs.Common.{◌≡◌, ◌≢◌, ℕ, true, false, List, [], refl, ap, sym, ◌∙◌, subst, inl, inr, arith}
-use Rattle.std.specs.Prelude.{Some, None}
+use Rattle.std.proofs.Common.{◌≡◌, ◌≢◌, ℕ, true, List, [], refl, ap, sym, ◌∙◌, subst, inl, inr, arith}
+use Rattle.std.specs.Prelude.{None}
 use Rattle.tsl_io.specs.Told.{with_added}
 use Rattle.tsl_io.specs.Effects.{Effect, NeverFailed, ContentsAre}
 use Rattle.tool_ends.specs.declared.status.Status.{Status}
