@@ -5,9 +5,10 @@ use Rattle.automaton_text.specs.declared.hoa_error.HoaError.TheVariants.{Form, B
 use Rattle.tsl_report.specs.declared.fault.Head.TheVariants.{Letters}
 use Rattle.tsl_report.specs.declared.fault.Fault.{Fault}
 use Rattle.tsl_report.specs.declared.fault.Fault.TheVariants.{Parts, LettersForm}
-use Rattle.tool_replies.specs.declared.reply.Reply.{Reply}
+use Rattle.tool_ends.specs.declared.reply.Reply.{Reply}
 use Rattle.tool_replies.specs.Replies.{fault_status}
-use Rattle.tool_replies.proofs.Statuses.{comes_of_bytes, status_of, text_of, fault_says}
+use Rattle.tool_ends.proofs.Replying.{comes_of_bytes, status_of, text_of}
+use Rattle.tool_replies.proofs.Statuses.{fault_says}
 use Rattle.exchange_replies.specs.Accepts.{IsAutomatonFault, verdict_reply, AcceptsOutcome, without_letters, of_parts}
 use Rattle.exchange_replies.specs.Accepts.{automaton_refused, letters_refused, both_spelled}
 

@@ -1,8 +1,9 @@
 -- Which status and which text the replies of `automaton` have.
 use Rattle.std.proofs.Common.{◌≡◌, ◌≢◌, ℕ, true, List, [], ap, sym, ◌∙◌}
-use Rattle.tool_replies.specs.declared.reply.Reply.{Reply}
+use Rattle.tool_ends.specs.declared.reply.Reply.{Reply}
 use Rattle.tool_replies.specs.Refusals.{fault_at_limit}
-use Rattle.tool_replies.proofs.Statuses.{comes_of_bytes, status_of, refusal_comes, limit_comes, fault_says}
+use Rattle.tool_ends.proofs.Replying.{comes_of_bytes, status_of}
+use Rattle.tool_replies.proofs.Statuses.{refusal_comes, limit_comes, fault_says}
 use Rattle.exchange_replies.specs.Automaton.{AutomatonOutcome, refused, of_spec, too_large, told}
 
 pub automaton_comes : (bytes : List ℕ) (reply : Reply) → AutomatonOutcome bytes reply → comes_of_bytes reply.status ≡ true

@@ -1,7 +1,7 @@
 -- Which status and which text the replies of `circuit` have.
 use Rattle.std.proofs.Common.{◌≡◌, ◌≢◌, ℕ, true, List, [], ap, sym, ◌∙◌}
-use Rattle.tool_replies.specs.declared.reply.Reply.{Reply}
-use Rattle.tool_replies.proofs.Statuses.{comes_of_bytes, status_of, text_of}
+use Rattle.tool_ends.specs.declared.reply.Reply.{Reply}
+use Rattle.tool_ends.proofs.Replying.{comes_of_bytes, status_of, text_of}
 use Rattle.judging_replies.proofs.CheckReplies.{check_comes, check_says}
 use Rattle.exchange_replies.specs.Circuit.{CircuitOutcome, not_accepted, accepted}
 

@@ -14,7 +14,7 @@ use Rattle.automaton_text.specs.HoaText.{IsHoaText}
 use Rattle.automaton_text.specs.HoaRefusals.{IsHoaRefusal, IsSmall}
 use Rattle.tsl_report.specs.declared.fault.Fault.{Fault}
 use Rattle.tsl_report.specs.declared.fault.Fault.TheVariants.{LettersForm}
-use Rattle.tool_replies.specs.declared.reply.Reply.{Reply}
+use Rattle.tool_ends.specs.declared.reply.Reply.{Reply}
 use Rattle.tool_replies.specs.HeadLines.{IsCutBefore}
 use Rattle.tool_replies.specs.Refusals.{HasSpecFault, fault_at_limit}
 use Rattle.tool_replies.specs.Replies.{fault_reply}

@@ -15,8 +15,8 @@ use Rattle.tsl_report.specs.declared.fault.Head.TheVariants.{Letters}
 use Rattle.tsl_report.specs.declared.fault.LimitName.TheVariants.{Bits as BitLimit, States as StateLimit, Edges as EdgeLimit}
 use Rattle.tsl_report.specs.declared.fault.Fault.{Fault}
 use Rattle.tsl_report.specs.declared.fault.Fault.TheVariants.{Parts, AutomatonForm, LettersForm, Large}
-use Rattle.tool_replies.specs.declared.status.Status.TheVariants.{Done, No}
-use Rattle.tool_replies.specs.declared.reply.Reply.{Reply}
+use Rattle.tool_ends.specs.declared.status.Status.TheVariants.{Done, No}
+use Rattle.tool_ends.specs.declared.reply.Reply.{Reply}
 use Rattle.tool_replies.specs.HeadLines.{HasNoLine, IsCutBefore}
 use Rattle.tool_replies.specs.Replies.{fault_reply}
 use Rattle.exchange_replies.specs.Letters.{letters_of}

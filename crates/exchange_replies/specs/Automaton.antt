@@ -20,8 +20,8 @@ use Rattle.program_check.specs.Verdicts.{HasFewBits}
 use Rattle.automaton_text.specs.BitNames.{bit_names}
 use Rattle.automaton_text.specs.HoaText.{hoa_text}
 use Rattle.tsl_report.specs.declared.fault.Fault.{Fault}
-use Rattle.tool_replies.specs.declared.status.Status.TheVariants.{Done}
-use Rattle.tool_replies.specs.declared.reply.Reply.{Reply}
+use Rattle.tool_ends.specs.declared.status.Status.TheVariants.{Done}
+use Rattle.tool_ends.specs.declared.reply.Reply.{Reply}
 use Rattle.tool_replies.specs.Refusals.{HasSpecFault, fault_at_limit}
 use Rattle.tool_replies.specs.Replies.{fault_reply}
 

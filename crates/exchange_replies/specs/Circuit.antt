@@ -8,8 +8,8 @@ use Rattle.control_flow_model.specs.ControllerOf.{IsControllerOf}
 use Rattle.circuits.specs.Circuits.{CircuitTree, IsCircuit}
 use Rattle.controller_circuits.specs.OfController.{IsCircuitOf}
 use Rattle.circuit_text.specs.CircuitText.{circuit_text}
-use Rattle.tool_replies.specs.declared.status.Status.TheVariants.{Done}
-use Rattle.tool_replies.specs.declared.reply.Reply.{Reply}
+use Rattle.tool_ends.specs.declared.status.Status.TheVariants.{Done}
+use Rattle.tool_ends.specs.declared.reply.Reply.{Reply}
 use Rattle.judging_replies.specs.Check.{CheckOutcome}
 use Rattle.judging_replies.specs.Judged.{IsAcceptedPair}
 

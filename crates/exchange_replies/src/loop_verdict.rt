@@ -19,7 +19,8 @@ use line_formats::TextError;
 use loop_acceptance::judge_loop;
 use sequence::NoMemory;
 use std::alloc::Global;
-use tool_replies::{Reply, Status, cut_before};
+use tool_ends::{Reply, Status};
+use tool_replies::{cut_before, fault_reply};
 use tsl_report::{Fault, Head, LimitName};
 
 /// The line between an automaton and a loop of letters.
@@ -33,7 +34,7 @@ pub fn accepts(alloc: Global, bytes: &[u8]) -> Result<Reply, NoMemory>
 {
     match cut_before(bytes, LETTERS_LINE) {
         Some((automaton, rest)) => reply_to_parts(alloc, automaton, after_line(rest)),
-        None => Reply::at_fault(alloc, &Fault::Parts(Head::Letters)),
+        None => fault_reply(alloc, &Fault::Parts(Head::Letters)),
     }
 }
 
@@ -55,7 +56,7 @@ fn reply_to_parts(alloc: Global, automaton: &[u8], letters: &[u8]) -> Result<Rep
         Ok(hoa) => reply_to_letters(alloc, automaton, &hoa, letters),
         Err(error) => {
             let fault = automaton_fault(error)?;
-            Reply::at_fault(alloc, &fault)
+            fault_reply(alloc, &fault)
         }
     }
 }
@@ -87,7 +88,7 @@ fn reply_to_letters(
 {
     match read_letters(alloc, letters, hoa.bits) {
         Ok(found) => verdict_on(alloc, &hoa.automaton, hoa.bits, &found),
-        Err(TextError::Form(line)) => Reply::at_fault(alloc, &Fault::LettersForm(line)),
+        Err(TextError::Form(line)) => fault_reply(alloc, &Fault::LettersForm(line)),
         Err(TextError::NoMemory) => Err(NoMemory),
     }
 }

@@ -15,7 +15,8 @@ use machines::Side;
 use program_check::{CheckError, automaton_for};
 use sequence::NoMemory;
 use std::alloc::Global;
-use tool_replies::{Reply, Status, fault_of, fault_of_limit};
+use tool_ends::{Reply, Status};
+use tool_replies::{fault_of, fault_of_limit, fault_reply};
 use tsl_reader::read_spec;
 use tsl_terms::Spec;
 
@@ -36,7 +37,7 @@ pub fn automaton(alloc: Global, bytes: &[u8]) -> Result<Reply, NoMemory>
         Ok(spec) => reply_to_spec(alloc, &spec),
         Err(error) => {
             let fault = fault_of(alloc, bytes, &error)?;
-            Reply::at_fault(alloc, &fault)
+            fault_reply(alloc, &fault)
         }
     }
 }
@@ -48,7 +49,7 @@ fn reply_to_spec(alloc: Global, spec: &Spec) -> Result<Reply, NoMemory>
 {
     match negation_of(alloc, spec) {
         Ok(negation) => automaton_reply(alloc, spec, &negation),
-        Err(CheckError::Large(limit)) => Reply::at_fault(alloc, &fault_of_limit(limit)),
+        Err(CheckError::Large(limit)) => fault_reply(alloc, &fault_of_limit(limit)),
         Err(CheckError::NoMemory) => Err(NoMemory),
     }
 }

@@ -14,7 +14,7 @@ use letter_space::space_of;
 use program_tree::Program;
 use sequence::NoMemory;
 use std::alloc::Global;
-use tool_replies::{Reply, Status};
+use tool_ends::{Reply, Status};
 use tsl_terms::Spec;
 
 /// What `circuit` replies to these bytes: a circuit of the controller of their program, where it is accepted

@@ -6,14 +6,15 @@ use Rattle.program_check.specs.declared.verdict.Verdict.{Verdict}
 use Rattle.program_check.specs.declared.verdict.Verdict.TheVariants.{Signals, Test, Choice, Foreign, Unsound, NoAnnotation, Yes}
 use Rattle.tsl_terms.specs.SpecTree.{SpecTree}
 use Rattle.program_tree.specs.ProgramTree.{ProgramTree}
-use Rattle.tool_replies.specs.declared.status.Status.TheVariants.{Done}
-use Rattle.tool_replies.specs.declared.reply.Reply.{Reply}
+use Rattle.tool_ends.specs.declared.status.Status.TheVariants.{Done}
+use Rattle.tool_ends.specs.declared.reply.Reply.{Reply}
 use Rattle.judging_replies.specs.Check.{verdict_reply}
 use Rattle.judging_replies.specs.Check.{VerdictOutcome, too_large, judged, spec_refused, program_refused, both_spelled}
 use Rattle.judging_replies.specs.Check.{CheckOutcome, without_program, of_texts}
 use Rattle.tool_replies.specs.Refusals.{fault_at_limit}
 use Rattle.judging_replies.proofs.RunReplies.{program_fault_comes}
-use Rattle.tool_replies.proofs.Statuses.{comes_of_bytes, status_of, text_of, refusal_comes, limit_comes, fault_says}
+use Rattle.tool_ends.proofs.Replying.{comes_of_bytes, status_of, text_of}
+use Rattle.tool_replies.proofs.Statuses.{refusal_comes, limit_comes, fault_says}
 
 -- ---- statuses
 

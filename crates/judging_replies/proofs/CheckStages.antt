@@ -9,8 +9,8 @@ use Rattle.tsl_reader.specs.Spells.{Spells}
 use Rattle.tsl_report.specs.declared.fault.Head.TheVariants.{Program}
 use Rattle.tsl_report.specs.declared.fault.Fault.{Fault}
 use Rattle.tsl_report.specs.declared.fault.Fault.TheVariants.{Parts}
-use Rattle.tool_replies.specs.declared.status.Status.TheVariants.{Done}
-use Rattle.tool_replies.specs.declared.reply.Reply.{Reply}
+use Rattle.tool_ends.specs.declared.status.Status.TheVariants.{Done}
+use Rattle.tool_ends.specs.declared.reply.Reply.{Reply}
 use Rattle.tsl_meaning.specs.Promise.{Realizes}
 use Rattle.program_check.specs.declared.verdict.Verdict.{Verdict}
 use Rattle.program_check.specs.declared.verdict.Verdict.TheVariants.{Yes}
@@ -28,7 +28,8 @@ use Rattle.tool_replies.specs.Replies.{fault_reply}
 use Rattle.judging_replies.specs.RunFaults.{IsProgramFault}
 use Rattle.judging_replies.specs.RunParts.{program_line}
 use Rattle.tool_replies.specs.Refusals.{HasSpecFault, fault_at_limit}
-use Rattle.tool_replies.proofs.Statuses.{status_of, fault_not_done}
+use Rattle.tool_ends.proofs.Replying.{status_of}
+use Rattle.tool_replies.proofs.Statuses.{fault_not_done}
 use Rattle.judging_replies.proofs.CheckReplies.{is_yes}
 
 -- that something is refused, and that it is no yes

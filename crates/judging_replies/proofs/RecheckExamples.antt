@@ -5,8 +5,8 @@ use Rattle.cnf_reader.specs.CnfText.{cnf_answer}
 use Rattle.refutation_check.specs.LogText.{log_answer}
 use Rattle.tsl_report.specs.declared.fault.LimitName.TheVariants.{Variables}
 use Rattle.tsl_report.specs.declared.fault.Fault.TheVariants.{CnfForm, LogForm, Large}
-use Rattle.tool_replies.specs.declared.status.Status.TheVariants.{Done, No}
-use Rattle.tool_replies.specs.declared.reply.Reply.{Reply}
+use Rattle.tool_ends.specs.declared.status.Status.TheVariants.{Done, No}
+use Rattle.tool_ends.specs.declared.reply.Reply.{Reply}
 use Rattle.tool_replies.specs.Replies.{fault_reply}
 use Rattle.judging_replies.specs.Recheck.{cnf_part, log_part, parts_reply}
 

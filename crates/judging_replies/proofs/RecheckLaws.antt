@@ -6,9 +6,9 @@ use Rattle.refutation_check.specs.Checking.{Refusal}
 use Rattle.cnf_reader.specs.CnfText.{CnfAnswer, is_cnf, form_at as cnf_form_at, too_many_variables, too_many_clauses, cnf_answer}
 use Rattle.refutation_check.specs.LogText.{LogAnswer, is_log, form_at as log_form_at, log_answer}
 use Rattle.refutation_check.proofs.Refuting.{accepted_refutes}
-use Rattle.tool_replies.specs.declared.status.Status.TheVariants.{Done, No}
-use Rattle.tool_replies.specs.declared.reply.Reply.{Reply}
-use Rattle.tool_replies.specs.Statuses.{is_answer}
+use Rattle.tool_ends.specs.declared.status.Status.TheVariants.{Done, No}
+use Rattle.tool_ends.specs.declared.reply.Reply.{Reply}
+use Rattle.tool_ends.specs.Statuses.{is_answer}
 use Rattle.judging_replies.specs.Recheck.{verdict, parts_reply, FormulaAndLog, refusal_of, IsAccepted, IsRefused, IsRefutation, RecheckOutcome}
 use Rattle.judging_replies.specs.Recheck.{of_parts, head_line, cnf_part, log_part}
 

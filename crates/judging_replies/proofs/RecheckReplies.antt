@@ -7,8 +7,9 @@ use Rattle.refutation_check.specs.LogText.{LogAnswer, is_log, form_at as log_for
 use Rattle.tsl_report.specs.declared.fault.Fault.TheVariants.{Parts, CnfForm, LogForm, Large}
 use Rattle.tsl_report.specs.declared.fault.Head.TheVariants.{Lrat}
 use Rattle.tsl_report.specs.declared.fault.LimitName.TheVariants.{Variables, Clauses}
-use Rattle.tool_replies.specs.declared.reply.Reply.{Reply}
-use Rattle.tool_replies.proofs.Statuses.{comes_of_bytes, status_of, text_of, line_says, fault_says}
+use Rattle.tool_ends.specs.declared.reply.Reply.{Reply}
+use Rattle.tool_ends.proofs.Replying.{comes_of_bytes, status_of, text_of}
+use Rattle.tool_replies.proofs.Statuses.{line_says, fault_says}
 use Rattle.judging_replies.specs.Recheck.{RecheckOutcome, without_log, of_parts, verdict, parts_reply, cnf_part, log_part}
 
 -- ---- statuses

@@ -38,7 +38,7 @@ use Rattle.table_runner.specs.Running.{rows_seen, CanRun}
 use Rattle.tsl_report.specs.TraceText.{position_is_held, RunIsHeld}
 use Rattle.tsl_report.specs.declared.fault.LimitName.TheVariants.{Run as RunLimit}
 use Rattle.tsl_report.specs.declared.fault.Fault.TheVariants.{Large}
-use Rattle.tool_replies.specs.declared.reply.Reply.{Reply}
+use Rattle.tool_ends.specs.declared.reply.Reply.{Reply}
 use Rattle.tool_replies.specs.Replies.{fault_reply}
 use Rattle.judging_replies.specs.Run.{RunInput, SpellRunInput, IsFirstRun, HasGivenSignals, given_formulas, given_names, judged_formulas, lasso_of}
 use Rattle.judging_replies.specs.Run.{meanings_of_input, trace_reply, InputOutcome, Closes, traced, runs_on, other_signals, formulas_to_judge}

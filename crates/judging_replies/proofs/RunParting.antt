@@ -4,7 +4,7 @@ use Rattle.std.specs.Prelude.{Result, Ok, Err, IfOk}
 use Rattle.tsl_report.specs.declared.fault.Head.{Head}
 use Rattle.tsl_report.specs.declared.fault.Fault.{Fault}
 use Rattle.tsl_report.specs.declared.fault.Fault.TheVariants.{Parts}
-use Rattle.tool_replies.specs.declared.reply.Reply.{Reply}
+use Rattle.tool_ends.specs.declared.reply.Reply.{Reply}
 use Rattle.tool_replies.specs.Replies.{fault_reply}
 use Rattle.tsl_text.specs.Places.{IsBetweenFeeds}
 use Rattle.tool_replies.specs.HeadLines.{HasNoLine}

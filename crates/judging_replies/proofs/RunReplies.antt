@@ -25,8 +25,8 @@ use Rattle.tsl_report.specs.declared.fault.Fault.{Fault}
 use Rattle.tsl_report.specs.declared.fault.Fault.TheVariants.{Parts, Large}
 use Rattle.tsl_report.specs.declared.fault.LimitName.TheVariants.{Run as RunLimit}
 use Rattle.tsl_report.specs.TraceText.{positions_text, loop_text, verdicts_text, trace_text}
-use Rattle.tool_replies.specs.declared.status.Status.TheVariants.{Done, No}
-use Rattle.tool_replies.specs.declared.reply.Reply.{Reply}
+use Rattle.tool_ends.specs.declared.status.Status.TheVariants.{Done, No}
+use Rattle.tool_ends.specs.declared.reply.Reply.{Reply}
 use Rattle.tool_replies.specs.Replies.{fault_status}
 use Rattle.judging_replies.specs.RunFaults.{IsProgramFault, IsTableFault, IsWordsFault, IsInputFault}
 use Rattle.judging_replies.specs.declared.parting.Style.{Style}
@@ -35,7 +35,8 @@ use Rattle.judging_replies.specs.RunParts.{RunParts}
 use Rattle.judging_replies.specs.Run.{RunInput, verdicts_of, verdict_status, signals_reply, most_configurations, HasMeaningFault, HasPartFault, in_spec}
 use Rattle.judging_replies.specs.Run.{in_program, in_meaning, in_inputs, InputOutcome, runs_on, other_signals, traced, part_refused, spelled}
 use Rattle.judging_replies.specs.Run.{RunOutcome, missing, of_all_parts}
-use Rattle.tool_replies.proofs.Statuses.{comes_of_bytes, status_of, text_of, refusal_comes, fault_says}
+use Rattle.tool_ends.proofs.Replying.{comes_of_bytes, status_of, text_of}
+use Rattle.tool_replies.proofs.Statuses.{refusal_comes, fault_says}
 
 -- ---- statuses
 

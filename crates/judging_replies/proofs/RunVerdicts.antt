@@ -9,7 +9,7 @@ use Rattle.tsl_terms.specs.FormulaTree.{FormulaTree}
 use Rattle.tsl_meaning.specs.Lasso.{meets, Meets}
 use Rattle.tsl_meaning.specs.RunLasso.{shape_of}
 use Rattle.tsl_meaning.specs.RunTree.{RunTree}
-use Rattle.tool_replies.specs.declared.status.Status.TheVariants.{Done, No}
+use Rattle.tool_ends.specs.declared.status.Status.TheVariants.{Done, No}
 use Rattle.judging_replies.specs.Run.{RunInput, lasso_of, judged_formulas, verdicts_of, verdict_status, run_reply}
 
 -- where the status says yes, each formula holds

@@ -14,8 +14,8 @@ use Rattle.program_check.specs.Verdicts.{HasFewBits, IsVerdict, IsPassed}
 use Rattle.tsl_report.specs.declared.fault.Head.TheVariants.{Program}
 use Rattle.tsl_report.specs.declared.fault.Fault.{Fault}
 use Rattle.tsl_report.specs.declared.fault.Fault.TheVariants.{Parts}
-use Rattle.tool_replies.specs.declared.status.Status.TheVariants.{Done, No}
-use Rattle.tool_replies.specs.declared.reply.Reply.{Reply}
+use Rattle.tool_ends.specs.declared.status.Status.TheVariants.{Done, No}
+use Rattle.tool_ends.specs.declared.reply.Reply.{Reply}
 use Rattle.tool_replies.specs.HeadLines.{HasNoLine, IsCutBefore}
 use Rattle.tool_replies.specs.Replies.{fault_reply}
 use Rattle.judging_replies.specs.RunFaults.{IsProgramFault}

@@ -10,7 +10,7 @@ use Rattle.program_tree.specs.ProgramView.{program_tree}
 use Rattle.tsl_meaning.specs.Promise.{Realizes}
 use Rattle.program_check.specs.declared.verdict.Verdict.TheVariants.{Yes}
 use Rattle.program_check.specs.Verdicts.{HasFewBits, IsVerdict}
-use Rattle.tool_replies.specs.declared.status.Status.TheVariants.{Done}
+use Rattle.tool_ends.specs.declared.status.Status.TheVariants.{Done}
 use Rattle.judging_replies.specs.Check.{CheckParts, AreCheckParts, SpellCheckInput, CheckOutcome}
 use Rattle.judging_replies.specs.declared.checking.Judged.{Judged}
 use Rattle.judging_replies.specs.declared.checking.Judged.TheVariants.{Accepted, Replied}

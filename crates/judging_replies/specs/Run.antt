@@ -32,9 +32,9 @@ use Rattle.tsl_report.specs.TraceText.{trace_text}
 use Rattle.judging_replies.specs.declared.parting.Style.{Style}
 use Rattle.judging_replies.specs.declared.parting.Style.TheVariants.{Tables, Words}
 use Rattle.judging_replies.specs.declared.running.TheConstants.{MOST_CONFIGURATIONS}
-use Rattle.tool_replies.specs.declared.status.Status.{Status}
-use Rattle.tool_replies.specs.declared.status.Status.TheVariants.{Done, No}
-use Rattle.tool_replies.specs.declared.reply.Reply.{Reply}
+use Rattle.tool_ends.specs.declared.status.Status.{Status}
+use Rattle.tool_ends.specs.declared.status.Status.TheVariants.{Done, No}
+use Rattle.tool_ends.specs.declared.reply.Reply.{Reply}
 use Rattle.tool_replies.specs.Refusals.{HasSpecFault}
 use Rattle.tool_replies.specs.Replies.{fault_reply}
 use Rattle.judging_replies.specs.RunFaults.{IsProgramFault, IsTableFault, IsWordsFault, IsInputFault}

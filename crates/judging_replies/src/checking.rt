@@ -15,7 +15,8 @@ use program_check::{CheckError, Verdict, accept};
 use program_tree::Program;
 use sequence::NoMemory;
 use std::alloc::Global;
-use tool_replies::{PROGRAM_LINE, Reply, Status, cut_before, fault_of, fault_of_limit};
+use tool_ends::{Reply, Status};
+use tool_replies::{PROGRAM_LINE, cut_before, fault_of, fault_of_limit, fault_reply};
 use tsl_reader::read_spec;
 use tsl_report::{Fault, Head};
 use tsl_terms::{Names, Spec};
@@ -59,7 +60,7 @@ pub fn accepted_program(alloc: Global, bound: u32, bytes: &[u8]) -> Result<Judge
     match cut_before(bytes, PROGRAM_LINE) {
         Some((spec, program)) => texts_judged(alloc, bound, &Texts { spec, program }),
         None => {
-            let reply = Reply::at_fault(alloc, &Fault::Parts(Head::Program))?;
+            let reply = fault_reply(alloc, &Fault::Parts(Head::Program))?;
             Ok(Judged::Replied(reply))
         }
     }
@@ -77,7 +78,7 @@ fn texts_judged(alloc: Global, bound: u32, texts: &Texts<'_>) -> Result<Judged, 
         }
         Err(error) => {
             let fault = fault_of(alloc, texts.spec, &error)?;
-            let reply = Reply::at_fault(alloc, &fault)?;
+            let reply = fault_reply(alloc, &fault)?;
             Ok(Judged::Replied(reply))
         }
     }
@@ -101,7 +102,7 @@ fn spec_judged(
         Ok((program, _)) => program_judged(alloc, bound, texts, spec, program),
         Err(error) => {
             let fault = fault_of_program(alloc, texts.program, &error)?;
-            let reply = Reply::at_fault(alloc, &fault)?;
+            let reply = fault_reply(alloc, &fault)?;
             Ok(Judged::Replied(reply))
         }
     }
@@ -131,7 +132,7 @@ fn program_judged(
             Ok(Judged::Replied(reply))
         }
         Err(CheckError::Large(limit)) => {
-            let reply = Reply::at_fault(alloc, &fault_of_limit(limit))?;
+            let reply = fault_reply(alloc, &fault_of_limit(limit))?;
             Ok(Judged::Replied(reply))
         }
         Err(CheckError::NoMemory) => Err(NoMemory),

@@ -13,7 +13,8 @@ use refutation_check::{
 };
 use sequence::NoMemory;
 use std::alloc::Global;
-use tool_replies::{Reply, Status};
+use tool_ends::{Reply, Status};
+use tool_replies::fault_reply;
 use tsl_report::{Fault, Head, LimitName};
 use tsl_text::{line_at, put_bytes, put_number};
 
@@ -28,7 +29,7 @@ pub fn recheck(alloc: Global, bytes: &[u8]) -> Result<Reply, NoMemory>
 {
     match line_at(bytes, HEAD_LINE) {
         Some(at) => reply_to_parts(alloc, &bytes[..at as usize], after_head(bytes, at)),
-        None => Reply::at_fault(alloc, &Fault::Parts(Head::Lrat)),
+        None => fault_reply(alloc, &Fault::Parts(Head::Lrat)),
     }
 }
 
@@ -50,15 +51,15 @@ fn reply_to_parts(alloc: Global, cnf_text: &[u8], log_text: &[u8]) -> Result<Rep
 {
     match read_dimacs(alloc, cnf_text) {
         Ok(cnf) => reply_to_log(alloc, &cnf, log_text),
-        Err(CnfError::Form(line)) => Reply::at_fault(alloc, &Fault::CnfForm(line)),
+        Err(CnfError::Form(line)) => fault_reply(alloc, &Fault::CnfForm(line)),
         Err(CnfError::Variables) => {
-            Reply::at_fault(
+            fault_reply(
                 alloc,
                 &Fault::Large(LimitName::Variables, MOST_VARIABLES as u32),
             )
         }
         Err(CnfError::Clauses) => {
-            Reply::at_fault(
+            fault_reply(
                 alloc,
                 &Fault::Large(LimitName::Clauses, MOST_CLAUSES as u32),
             )
@@ -75,7 +76,7 @@ fn reply_to_log(alloc: Global, cnf: &Cnf, log_text: &[u8]) -> Result<Reply, NoMe
 {
     match read_lrat(alloc, log_text) {
         Ok(log) => verdict_on(alloc, cnf, &log),
-        Err(LogTextError::Form(line)) => Reply::at_fault(alloc, &Fault::LogForm(line)),
+        Err(LogTextError::Form(line)) => fault_reply(alloc, &Fault::LogForm(line)),
         Err(LogTextError::NoMemory) => Err(NoMemory),
     }
 }

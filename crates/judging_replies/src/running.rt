@@ -18,7 +18,8 @@ use sequence::NoMemory;
 use std::alloc::Global;
 use table_interp::read_inputs;
 use table_runner::RunError;
-use tool_replies::{Reply, fault_of};
+use tool_ends::Reply;
+use tool_replies::{fault_of, fault_reply};
 use tsl_meaning::InputLoop;
 use tsl_reader::read_spec;
 use tsl_report::{Fault, LimitName};
@@ -35,7 +36,7 @@ pub fn run(alloc: Global, bytes: &[u8]) -> Result<Reply, NoMemory>
 {
     match parts_of(bytes) {
         Ok(parts) => reply_to_spec(alloc, &parts),
-        Err(head) => Reply::at_fault(alloc, &Fault::Parts(head)),
+        Err(head) => fault_reply(alloc, &Fault::Parts(head)),
     }
 }
 
@@ -54,7 +55,7 @@ fn reply_to_spec(alloc: Global, parts: &Parts<'_>) -> Result<Reply, NoMemory>
         }
         Err(error) => {
             let fault = fault_of(alloc, parts.spec, &error)?;
-            Reply::at_fault(alloc, &fault)
+            fault_reply(alloc, &fault)
         }
     }
 }
@@ -76,7 +77,7 @@ fn reply_to_program(
         Ok((program, names)) => reply_to_meaning(alloc, parts, spec, &program, &names),
         Err(error) => {
             let fault = fault_of_program(alloc, parts.program, &error)?;
-            Reply::at_fault(alloc, &fault)
+            fault_reply(alloc, &fault)
         }
     }
 }
@@ -104,7 +105,7 @@ fn reply_to_meaning(
         program.cells.as_slice(),
     ) {
         Ok(meaning) => reply_to_inputs(alloc, parts, spec, program, names, &meaning),
-        Err(Refused::AtFault(fault)) => Reply::at_fault(alloc, &fault),
+        Err(Refused::AtFault(fault)) => fault_reply(alloc, &fault),
         Err(Refused::NoMemory) => Err(NoMemory),
     }
 }
@@ -140,7 +141,7 @@ fn reply_to_inputs(
         Ok(inputs) => reply_to_run(alloc, spec, program, names, meaning, &inputs),
         Err(error) => {
             let fault = fault_of_inputs(alloc, parts.inputs, names, &error)?;
-            Reply::at_fault(alloc, &fault)
+            fault_reply(alloc, &fault)
         }
     }
 }
@@ -178,7 +179,7 @@ fn reply_to_run(
             trace_reply(alloc, spec, program, names, meaning, &run)
         }
         Err(RunError::NoLoop) => {
-            Reply::at_fault(alloc, &Fault::Large(LimitName::Run, MOST_CONFIGURATIONS))
+            fault_reply(alloc, &Fault::Large(LimitName::Run, MOST_CONFIGURATIONS))
         }
         Err(RunError::NoMemory) => Err(NoMemory),
     }

@@ -19,7 +19,7 @@ use crate::meaning::Meaning;
 use program_tree::Program;
 use sequence::NoMemory;
 use std::alloc::Global;
-use tool_replies::{Reply, Status};
+use tool_ends::{Reply, Status};
 use tsl_meaning::LoopRun;
 use tsl_report::trace_text;
 use tsl_terms::{Names, Spec, Window, signals, whole, window_formula};

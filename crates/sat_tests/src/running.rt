@@ -2,7 +2,7 @@
 
 use cnf_reader::read_dimacs;
 use refutation_check::{check, read_lrat};
-use solve_tool::{Status, solve};
+use solve_tool::{Status, exit_number, solve};
 use std::alloc::{AllocError, Global};
 use std::process::Abort;
 use std::test::Fail;
@@ -32,40 +32,40 @@ const USAGE: &[u8] = b"usage: solve [--budget NUMBER] [--log]\n";
 
 /// Formulas that have at most one assignment, and texts that are none.
 const TEXTS: &[Case] = &[
-    (b"p cnf 0 0\n", Status::Satisfiable, YES),
-    (b"p cnf 0 1\n0", Status::Unsatisfiable, NO),
+    (b"p cnf 0 0\n", Status::Done, YES),
+    (b"p cnf 0 1\n0", Status::No, NO),
     (
         b"c\np cnf 1 1\n-1 0\n",
-        Status::Satisfiable,
+        Status::Done,
         b"s SATISFIABLE\nv -1\nv 0\n",
     ),
-    (b"p cnf 1 2\n1 0 -1 0\n", Status::Unsatisfiable, NO),
+    (b"p cnf 1 2\n1 0 -1 0\n", Status::No, NO),
     (
         b"p cnf 3 3\n1 0\n-1 -2 0\n2 3 0\n",
-        Status::Satisfiable,
+        Status::Done,
         b"s SATISFIABLE\nv 1 -2 3\nv 0\n",
     ),
     // Clauses with a literal and its negation ask for nothing.
     (
         b"p cnf 2 4\n1 -1 0\n2 0\n-2 1 2 0\n-1 0\n",
-        Status::Satisfiable,
+        Status::Done,
         b"s SATISFIABLE\nv -1 2\nv 0\n",
     ),
-    (b"p cnf 2 3\n2 -2 0\n1 0\n-1 0\n", Status::Unsatisfiable, NO),
+    (b"p cnf 2 3\n2 -2 0\n1 0\n-1 0\n", Status::No, NO),
     // Eight literals stand in a line.
     (
         b"p cnf 8 8\n1 0 2 0 3 0 4 0 -5 0 6 0 7 0 8 0",
-        Status::Satisfiable,
+        Status::Done,
         b"s SATISFIABLE\nv 1 2 3 4 -5 6 7 8\nv 0\n",
     ),
     (
         b"p cnf 9 9\n1 0 2 0 3 0 4 0 -5 0 6 0 7 0 8 0 -9 0",
-        Status::Satisfiable,
+        Status::Done,
         b"s SATISFIABLE\nv 1 2 3 4 -5 6 7 8\nv -9\nv 0\n",
     ),
-    (SQUARE, Status::Unsatisfiable, NO),
-    (PIGEONS, Status::Unsatisfiable, NO),
-    (RING, Status::Unsatisfiable, NO),
+    (SQUARE, Status::No, NO),
+    (PIGEONS, Status::No, NO),
+    (RING, Status::No, NO),
     (b"", Status::Reading, b"fault cnf 1 form\n"),
     (b"p cnf 1 1\n1\n", Status::Reading, b"fault cnf 3 form\n"),
     (b"p cnf 1 1\n2 0\n", Status::Reading, b"fault cnf 2 form\n"),
@@ -153,7 +153,7 @@ fn run(
 /// Asserts that a run ended with this status and this text in its sink, and with nothing in the other.
 fn assert_said(rt: &impl Abort, ran: &Ran, status: Status, text: &[u8]) {
     let (out, err): (&[u8], &[u8]) = match status {
-        Status::Satisfiable | Status::Unsatisfiable | Status::Unknown => (text, b""),
+        Status::Done | Status::No | Status::Spent => (text, b""),
         _ => (b"", text),
     };
     assert_eq!(rt; ran.status, status);
@@ -183,7 +183,7 @@ fn other_words_are_usage(rt: HostRuntime) -> Result<(), Fail> {
 fn options_stand_in_any_order(rt: HostRuntime) -> Result<(), Fail> {
     for words in WORDS {
         let ran = run(rt.alloc(), words, b"p cnf 0 0\n", 0, 0)?;
-        assert_said(&rt, &ran, Status::Satisfiable, YES);
+        assert_said(&rt, &ran, Status::Done, YES);
     }
     Ok(())
 }
@@ -191,7 +191,7 @@ fn options_stand_in_any_order(rt: HostRuntime) -> Result<(), Fail> {
 #[test]
 fn a_budget_of_one_is_spent_on_pigeons(rt: HostRuntime) -> Result<(), Fail> {
     let ran = run(rt.alloc(), &["--budget", "1"], PIGEONS, 0, 0)?;
-    assert_said(&rt, &ran, Status::Unknown, b"s UNKNOWN\n");
+    assert_said(&rt, &ran, Status::Spent, b"s UNKNOWN\n");
     Ok(())
 }
 
@@ -218,7 +218,7 @@ fn logs_refute(rt: HostRuntime) -> Result<(), Fail> {
     let tautology = b"p cnf 2 5\n-2 2 0\n1 2 0\n1 -2 0\n-1 2 0\n-1 -2 0\n";
     for text in [SQUARE, PIGEONS, RING, tautology.as_slice()] {
         let ran = run(rt.alloc(), &["--log"], text, 0, 0)?;
-        assert_eq!(rt; ran.status, Status::Unsatisfiable);
+        assert_eq!(rt; ran.status, Status::No);
         assert_eq!(rt; ran.err.is_empty(), true);
         assert_eq!(rt; is_refutation(rt.alloc(), &ran.out), true);
     }
@@ -253,8 +253,8 @@ fn a_source_or_a_sink_that_fails_at_any_call_is_told(rt: HostRuntime) -> Result<
 
 #[test]
 fn statuses_have_the_numbers_of_the_field(rt: HostRuntime) -> Result<(), Fail> {
-    assert_eq!(rt; Status::Satisfiable.number(), 10);
-    assert_eq!(rt; Status::Unsatisfiable.number(), 20);
-    assert_eq!(rt; Status::Unknown.number(), 0);
+    assert_eq!(rt; exit_number(Status::Done), 10);
+    assert_eq!(rt; exit_number(Status::No), 20);
+    assert_eq!(rt; exit_number(Status::Spent), 0);
     Ok(())
 }

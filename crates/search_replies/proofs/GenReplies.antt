@@ -12,12 +12,13 @@ use Rattle.refinement_loop.specs.Outcomes.{IsLargeFor}
 use Rattle.refinement_loop.proofs.OneAnswer.{not_answered, not_both}
 use Rattle.generator.specs.Generated.{generated_text}
 use Rattle.tsl_report.specs.SearchTexts.{spent_text}
-use Rattle.tool_replies.specs.declared.status.Status.TheVariants.{Done, No, Large, Spent}
-use Rattle.tool_replies.specs.declared.reply.Reply.{Reply}
+use Rattle.tool_ends.specs.declared.status.Status.TheVariants.{Done, No, Large, Spent}
+use Rattle.tool_ends.specs.declared.reply.Reply.{Reply}
 use Rattle.search_replies.specs.Gen.{GenOutcome, found, none, spent, too_large, bits_summary}
 use Rattle.tool_replies.specs.Refusals.{fault_at_limit}
-use Rattle.tool_replies.specs.Statuses.{is_answer}
-use Rattle.tool_replies.proofs.Statuses.{comes_of_bytes, status_of, limit_comes, limit_is_large, limit_status, fault_says}
+use Rattle.tool_ends.specs.Statuses.{is_answer}
+use Rattle.tool_ends.proofs.Replying.{comes_of_bytes, status_of}
+use Rattle.tool_replies.proofs.Statuses.{limit_comes, limit_is_large, limit_status, fault_says}
 
 pub gen_comes : (n : ℕ) (reply : Reply) → GenOutcome n reply → comes_of_bytes reply.status ≡ true
 gen_comes n reply (spec, spells, found done h) = ap comes_of_bytes done

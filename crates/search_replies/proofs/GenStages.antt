@@ -24,13 +24,13 @@ use Rattle.refinement_loop.specs.Outcomes.{search_with, IsLargeFor, IsLargeIn, a
 use Rattle.generator.specs.Generated.{generated_text}
 use Rattle.tsl_report.specs.declared.fault.Fault.{Fault}
 use Rattle.tsl_report.specs.SearchTexts.{spent_text}
-use Rattle.tool_replies.specs.declared.status.Status.TheVariants.{Spent}
-use Rattle.tool_replies.specs.declared.reply.Reply.{Reply}
+use Rattle.tool_ends.specs.declared.status.Status.TheVariants.{Spent}
+use Rattle.tool_ends.specs.declared.reply.Reply.{Reply}
 use Rattle.search_replies.specs.Gen.{GenOutcome, SummaryOutcome, found, none, spent, too_large, summary_reply}
 use Rattle.tool_replies.specs.Refusals.{fault_at_limit}
 use Rattle.tool_replies.specs.Replies.{fault_reply}
 use Rattle.search_replies.specs.internal.GeneratedSizes.{generated_sizes}
-use Rattle.tool_replies.proofs.Statuses.{status_of, text_of}
+use Rattle.tool_ends.proofs.Replying.{status_of, text_of}
 
 -- the search of sizes, and that for a number
 abbrev pub search_of : Sizes → Search

@@ -13,12 +13,13 @@ use Rattle.refinement_loop.specs.Outcomes.{IsLargeFor}
 use Rattle.refinement_loop.proofs.OneAnswer.{not_answered, not_both}
 use Rattle.tsl_report.specs.SearchTexts.{spent_text}
 use Rattle.command_words.specs.declared.task.ProveSizes.{ProveSizes}
-use Rattle.tool_replies.specs.declared.status.Status.TheVariants.{Done, No, Large, Spent}
-use Rattle.tool_replies.specs.declared.reply.Reply.{Reply}
+use Rattle.tool_ends.specs.declared.status.Status.TheVariants.{Done, No, Large, Spent}
+use Rattle.tool_ends.specs.declared.reply.Reply.{Reply}
 use Rattle.search_replies.specs.Prove.{proof_text, proved, satisfiable, spent, too_large, ProveOutcome, refused, of_spec}
 use Rattle.tool_replies.specs.Refusals.{fault_at_limit}
-use Rattle.tool_replies.specs.Statuses.{is_answer}
-use Rattle.tool_replies.proofs.Statuses.{comes_of_bytes, status_of, refusal_comes, limit_comes, limit_is_large, limit_status, fault_says}
+use Rattle.tool_ends.specs.Statuses.{is_answer}
+use Rattle.tool_ends.proofs.Replying.{comes_of_bytes, status_of}
+use Rattle.tool_replies.proofs.Statuses.{refusal_comes, limit_comes, limit_is_large, limit_status, fault_says}
 use Rattle.tool_replies.proofs.RefusalLaws.{not_refused}
 
 -- ---- statuses

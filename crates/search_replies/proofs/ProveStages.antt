@@ -30,8 +30,8 @@ use Rattle.tsl_report.specs.declared.fault.Fault.{Fault}
 use Rattle.tsl_report.specs.FormulaText.{formula_text}
 use Rattle.tsl_report.specs.SearchTexts.{spent_text}
 use Rattle.command_words.specs.declared.task.ProveSizes.{ProveSizes}
-use Rattle.tool_replies.specs.declared.status.Status.TheVariants.{Done, Spent}
-use Rattle.tool_replies.specs.declared.reply.Reply.{Reply}
+use Rattle.tool_ends.specs.declared.status.Status.TheVariants.{Done, Spent}
+use Rattle.tool_ends.specs.declared.reply.Reply.{Reply}
 use Rattle.search_replies.specs.QuestionRanges.{IsQuestionInRange}
 use Rattle.search_replies.specs.Prove.{IsProof, QuestionOutcome, proved, satisfiable, spent, too_large, satisfiable_reply}
 use Rattle.search_replies.specs.Prove.{ProveOutcome, refused, of_spec}
@@ -39,7 +39,7 @@ use Rattle.tool_replies.specs.Refusals.{IsFaultOf, fault_at_limit}
 use Rattle.tool_replies.specs.Replies.{fault_reply}
 use Rattle.search_replies.proofs.FewVariables.{few_variables}
 use Rattle.search_replies.proofs.FormulaLines.{formula_in_line}
-use Rattle.tool_replies.proofs.Statuses.{status_of, text_of}
+use Rattle.tool_ends.proofs.Replying.{status_of, text_of}
 
 -- the text of a refutation of the question's clauses behind the whole formula is that of a proof
 is_proof : (sizes : ProveSizes) (spec : SpecTree) (q : QuestionTree) (count : ℕ) (list : List (List Lit)) (steps : List Step)

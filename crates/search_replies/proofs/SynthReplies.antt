@@ -22,14 +22,15 @@ use Rattle.refinement_loop.proofs.OneAnswer.{not_answered, not_both}
 use Rattle.refinement_loop.proofs.OneOutcome.{first_has_none, told_first}
 use Rattle.tsl_report.specs.FaultText.{fault_text}
 use Rattle.tsl_report.specs.SearchTexts.{none_text, spent_text}
-use Rattle.tool_replies.specs.declared.status.Status.TheVariants.{Done, No, Large, Spent}
-use Rattle.tool_replies.specs.declared.reply.Reply.{Reply}
+use Rattle.tool_ends.specs.declared.status.Status.TheVariants.{Done, No, Large, Spent}
+use Rattle.tool_ends.specs.declared.reply.Reply.{Reply}
 use Rattle.tool_replies.specs.Refusals.{fault_at_limit}
 use Rattle.tool_replies.specs.Replies.{fault_reply}
-use Rattle.tool_replies.specs.Statuses.{is_answer}
+use Rattle.tool_ends.specs.Statuses.{is_answer}
 use Rattle.search_replies.specs.Synth.{states_of_side, bound_of_side, large_reply, written, told_none, spent, too_large, SynthOutcome, refused, of_spec}
 use Rattle.tool_replies.proofs.RefusalLaws.{not_refused}
-use Rattle.tool_replies.proofs.Statuses.{comes_of_bytes, status_of, text_of, refusal_comes, limit_status, line_says, fault_says}
+use Rattle.tool_ends.proofs.Replying.{comes_of_bytes, status_of, text_of}
+use Rattle.tool_replies.proofs.Statuses.{refusal_comes, limit_status, line_says, fault_says}
 
 -- ---- statuses
 

@@ -11,8 +11,8 @@ use Rattle.refinement_loop.specs.declared.outcome.Bound.TheVariants.{Fixed}
 use Rattle.refinement_loop.specs.Questions.{HasNoSolution, IsWrittenFor}
 use Rattle.refinement_loop.specs.Outcomes.{IsLargeFor}
 use Rattle.generator.specs.Generated.{generated_text, summary_text}
-use Rattle.tool_replies.specs.declared.status.Status.TheVariants.{Done, No, Spent}
-use Rattle.tool_replies.specs.declared.reply.Reply.{Reply}
+use Rattle.tool_ends.specs.declared.status.Status.TheVariants.{Done, No, Spent}
+use Rattle.tool_ends.specs.declared.reply.Reply.{Reply}
 use Rattle.tool_replies.specs.Refusals.{fault_at_limit}
 use Rattle.tool_replies.specs.Replies.{fault_reply}
 use Rattle.search_replies.specs.Synth.{TellsSpentOn}

@@ -16,9 +16,9 @@ use Rattle.refinement_loop.specs.Questions.{IsAsked, HasFewClauses, HasNoSolutio
 use Rattle.refinement_loop.specs.Outcomes.{IsLargeFor}
 use Rattle.tsl_report.specs.declared.fault.Fault.{Fault}
 use Rattle.tsl_report.specs.FormulaText.{formula_text}
-use Rattle.tool_replies.specs.declared.status.Status.TheVariants.{Done, No, Spent}
+use Rattle.tool_ends.specs.declared.status.Status.TheVariants.{Done, No, Spent}
 use Rattle.command_words.specs.declared.task.ProveSizes.{ProveSizes}
-use Rattle.tool_replies.specs.declared.reply.Reply.{Reply}
+use Rattle.tool_ends.specs.declared.reply.Reply.{Reply}
 use Rattle.tool_replies.specs.Refusals.{HasSpecFault, fault_at_limit}
 use Rattle.tool_replies.specs.Replies.{fault_reply}
 use Rattle.search_replies.specs.Synth.{TellsSpentOn}

@@ -25,8 +25,8 @@ use Rattle.tsl_report.specs.declared.fault.Fault.{Fault}
 use Rattle.tsl_report.specs.FaultText.{fault_text}
 use Rattle.tsl_report.specs.RoundTexts.{rounds_text}
 use Rattle.tsl_report.specs.SearchTexts.{ReasonTree, rounds_made, no_counter, genuine, none_text, spent_text}
-use Rattle.tool_replies.specs.declared.status.Status.TheVariants.{Done, No, Large, Spent}
-use Rattle.tool_replies.specs.declared.reply.Reply.{Reply}
+use Rattle.tool_ends.specs.declared.status.Status.TheVariants.{Done, No, Large, Spent}
+use Rattle.tool_ends.specs.declared.reply.Reply.{Reply}
 use Rattle.tool_replies.specs.Refusals.{HasSpecFault, fault_at_limit}
 use Rattle.tool_replies.specs.Replies.{fault_reply}
 

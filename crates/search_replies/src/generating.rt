@@ -17,7 +17,8 @@ use program_check::Limit;
 use refinement_loop::{Outcome, RefineError, Sizes, refine};
 use sequence::NoMemory;
 use std::alloc::Global;
-use tool_replies::{Reply, Status, fault_of_limit};
+use tool_ends::{Reply, Status};
+use tool_replies::{fault_of_limit, fault_reply};
 use tsl_reader::read_spec;
 use tsl_terms::Spec;
 
@@ -45,10 +46,8 @@ fn reply_to_generated(alloc: Global, n: u32, spec: &Spec) -> Result<Reply, NoMem
 {
     match space_of(alloc, spec) {
         Ok(space) => reply_to_search(alloc, n, spec, &space),
-        Err(SpaceError::Predicates) => {
-            Reply::at_fault(alloc, &fault_of_limit(Limit::Predicates))
-        }
-        Err(SpaceError::Bits) => Reply::at_fault(alloc, &fault_of_limit(Limit::Bits)),
+        Err(SpaceError::Predicates) => { fault_reply(alloc, &fault_of_limit(Limit::Predicates)) }
+        Err(SpaceError::Bits) => fault_reply(alloc, &fault_of_limit(Limit::Bits)),
         Err(SpaceError::NoMemory) => Err(NoMemory),
     }
 }
@@ -80,7 +79,7 @@ fn reply_to_search(alloc: Global, n: u32, spec: &Spec, space: &Space) -> Result<
             &automaton,
             clauses.as_slice(),
         ),
-        Err(RefineError::Large(limit, _)) => Reply::at_fault(alloc, &fault_of_limit(limit)),
+        Err(RefineError::Large(limit, _)) => fault_reply(alloc, &fault_of_limit(limit)),
         Err(RefineError::NoMemory) => Err(NoMemory),
     }
 }

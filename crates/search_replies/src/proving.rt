@@ -26,7 +26,8 @@ use refutation_check::Log;
 use refutation_text::put_refutation;
 use sequence::NoMemory;
 use std::alloc::Global;
-use tool_replies::{Reply, Status, fault_of, fault_of_limit};
+use tool_ends::{Reply, Status};
+use tool_replies::{fault_of, fault_of_limit, fault_reply};
 use tsl_reader::read_spec;
 use tsl_report::formula_text;
 use tsl_terms::{Spec, whole};
@@ -43,7 +44,7 @@ pub fn prove(alloc: Global, sizes: ProveSizes, bytes: &[u8]) -> Result<Reply, No
         Ok(spec) => reply_to_question(alloc, &sizes, &spec),
         Err(error) => {
             let fault = fault_of(alloc, bytes, &error)?;
-            Reply::at_fault(alloc, &fault)
+            fault_reply(alloc, &fault)
         }
     }
 }
@@ -56,7 +57,7 @@ fn reply_to_question(alloc: Global, sizes: &ProveSizes, spec: &Spec) -> Result<R
 {
     match ask(alloc, spec, sizes.states, sizes.bound, sizes.budget) {
         Ok(asked) => reply_to_answer(alloc, sizes, spec, &asked),
-        Err(CheckError::Large(limit)) => Reply::at_fault(alloc, &fault_of_limit(limit)),
+        Err(CheckError::Large(limit)) => fault_reply(alloc, &fault_of_limit(limit)),
         Err(CheckError::NoMemory) => Err(NoMemory),
     }
 }

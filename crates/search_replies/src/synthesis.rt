@@ -31,7 +31,8 @@ use program_tree::Program;
 use refinement_loop::{Outcome, Reason, RefineError, Search, Searched, refine_by};
 use sequence::NoMemory;
 use std::alloc::Global;
-use tool_replies::{Reply, Status, fault_of, fault_of_limit};
+use tool_ends::{Reply, Status};
+use tool_replies::{fault_of, fault_of_limit, fault_reply};
 use tsl_reader::read_spec;
 use tsl_report::{ReasonText, fault_text, none_text, rounds_text, spent_text};
 use tsl_terms::Spec;
@@ -47,7 +48,7 @@ pub fn synth(alloc: Global, search: Search, bytes: &[u8]) -> Result<Reply, NoMem
         Ok(spec) => reply_to_search(alloc, &search, &spec),
         Err(error) => {
             let fault = fault_of(alloc, bytes, &error)?;
-            Reply::at_fault(alloc, &fault)
+            fault_reply(alloc, &fault)
         }
     }
 }

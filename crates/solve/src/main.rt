@@ -1,7 +1,7 @@
 //! The program: it makes the real source and sinks, calls `solve` and ends with its status.
 #![tactic(auto)]
 
-use solve_tool::{Status, solve};
+use solve_tool::{Status, exit_number, solve};
 use std::process::ExitCode;
 use std::rt::Env;
 use std::{env, io};
@@ -24,11 +24,11 @@ fn all_words(rt: &(impl Env + AllocGlobal)) -> io::Result<Vec<String>> {
 
 fn main(rt: HostRuntime) -> ExitCode {
     let Some(words) = words(&rt) else {
-        return ExitCode::from(Status::Memory.number());
+        return ExitCode::from(exit_number(Status::Memory));
     };
     let mut source = StdSource::new(rt.reader());
     let mut out = StdSink::new(rt.stdout());
     let mut err = StdSink::new(rt.stderr());
     let status = solve(rt.alloc(), &words, &mut source, &mut out, &mut err);
-    ExitCode::from(status.number())
+    ExitCode::from(exit_number(status))
 }

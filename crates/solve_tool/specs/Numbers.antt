@@ -1,8 +1,9 @@
--- The numbers of statuses, and the sink of what goes with them.
-use Rattle.std.specs.Prelude.{ℕ, Bool, true, false}
-use Rattle.solve_tool.specs.declared.status.Status.{Status}
-use Rattle.solve_tool.specs.declared.status.Status.TheVariants.{Satisfiable, Unsatisfiable, Unknown, Usage, Reading, Large}
-use Rattle.solve_tool.specs.declared.status.Status.TheVariants.{ReadFault, WriteFault, Memory}
+-- The numbers of statuses: an assignment meets all clauses, none does, and nothing is known.
+use Rattle.std.specs.Prelude.{ℕ, Bool}
+use Rattle.tool_ends.specs.declared.status.Status.{Status}
+use Rattle.tool_ends.specs.declared.status.Status.TheVariants.{Done as Satisfiable, No as Unsatisfiable, Spent as Unknown}
+use Rattle.tool_ends.specs.declared.status.Status.TheVariants.{Usage, Reading, Large, ReadFault, WriteFault, Memory}
+use Rattle.tool_ends.specs.Statuses.{is_answer}
 
 abbrev pub exit_number : Status → ℕ
 exit_number Satisfiable = 10
@@ -17,12 +18,4 @@ exit_number Memory = 8
 
 -- whether it answers the question, so that its text goes to the first sink
 abbrev pub is_solved : Status → Bool
-is_solved Satisfiable = true
-is_solved Unsatisfiable = true
-is_solved Unknown = true
-is_solved Usage = false
-is_solved Reading = false
-is_solved Large = false
-is_solved ReadFault = false
-is_solved WriteFault = false
-is_solved Memory = false
+is_solved status = is_answer status

@@ -4,8 +4,10 @@
 //! the field do. Its contract is the promise of the whole program. Its words, in the order to read
 //! them:
 //!
-//! 1. `Status` (`src/status.rt`): nine ways to end, with the numbers 10, 20 and 0 for the three
-//!    answers, whose text goes to the first sink (`specs/Numbers.antt`).
+//! 1. `Status` (`tool_ends`): nine ways to end. `Done` says that an assignment meets all clauses, `No` that none
+//!    does, and `Spent` that the budget is spent; the text of these goes to the first sink. `exit_number` gives
+//!    them the numbers 10, 20 and 0 (`specs/Numbers.antt`, which calls them `Satisfiable`, `Unsatisfiable` and
+//!    `Unknown`).
 //! 2. `Request` (`src/request.rt`): how many clauses may be learnt, and whether a log is wanted.
 //!    `request_of` gives that of the words (`specs/Requests.antt`).
 //! 3. `IsRightReply` (`specs/Outcome.antt`): that a status and a text are right for a formula. Where it
@@ -16,7 +18,7 @@
 //!    nothing is known, the budget was spent on clauses that are a trace.
 //! 4. `SolverOutcome` (`specs/Outcome.antt`): what the words and the bytes of the source may lead to,
 //!    refusals and failures included.
-//! 5. `SolverEnds` (`specs/Ends.antt`): the three ways in which a run ends, as those of `tsl`.
+//! 5. `SolverEnds` (`specs/Ends.antt`): the three ways in which a run ends, which are `EndsIn` of `tool_ends`.
 //!
 //! A clause with a literal and its negation is met by each assignment. Such clauses are left out
 //! before solving, so the formula that is written before a log is the one without them.
@@ -24,7 +26,6 @@
 
 mod laws;
 mod refusal;
-mod reply;
 mod request;
 mod solver;
 mod status;
@@ -32,5 +33,6 @@ mod top;
 mod values;
 
 pub use laws::assignments_are_told;
-pub use status::Status;
+pub use status::exit_number;
+pub use tool_ends::Status;
 pub use top::solve;

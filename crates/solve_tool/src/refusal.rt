@@ -1,11 +1,11 @@
 //! Why there is no answer.
 
 ghost use Rattle.std.specs.Prelude.{◌≡◌, ◌++◌, codes, decimal, IfOk};
-ghost use Rattle.solve_tool.specs.Replies.{refusal_status, refusal_words};
+ghost use Rattle.solve_tool.specs.Replies.{refusal_reply, refusal_status, refusal_words};
 
-use crate::status::Status;
 use sequence::NoMemory;
 use std::alloc::Global;
+use tool_ends::{Reply, Status};
 use tsl_text::{put_bytes, put_number};
 
 /// Why there is no answer.
@@ -26,8 +26,15 @@ pub(crate) enum Refusal {
 }
 
 impl Refusal {
+    /// The reply of the refusal: its line.
+    pub(crate) fn reply(self, alloc: Global) -> Result<Reply, NoMemory>
+        ensures { IfOk result (λ reply. reply ≡ refusal_reply self) }
+    {
+        Ok(Reply::new(self.status(), self.text(alloc)?))
+    }
+
     /// The status of the refusal.
-    pub(crate) fn status(self) -> Status
+    fn status(self) -> Status
         ensures { result ≡ refusal_status self }
     {
         match self {
@@ -40,7 +47,7 @@ impl Refusal {
     }
 
     /// The line that says it, with its line feed. An `Err` says that memory ran out.
-    pub(crate) fn text(self, alloc: Global) -> Result<Vec<u8>, NoMemory>
+    fn text(self, alloc: Global) -> Result<Vec<u8>, NoMemory>
         ensures { IfOk result (λ text. text.items ≡ refusal_words self ++ codes "\n") }
     {
         match self {

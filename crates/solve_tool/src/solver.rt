@@ -12,9 +12,7 @@ ghost use Rattle.solve_tool.specs.Outcome.{proper_clauses, IsRightReply, IsReply
 ghost use Rattle.solve_tool.specs.internal.Solutions.{IsSatisfiableReply, IsUnsatisfiableReply, IsUnknownReply};
 
 use crate::refusal::Refusal;
-use crate::reply::Reply;
 use crate::request::Request;
-use crate::status::Status;
 use crate::values::satisfiable_text;
 use clause_core::{ClauseList, Cnf, Literal, have_pair};
 use cnf_reader::{CnfError, CnfReader};
@@ -23,6 +21,7 @@ use refutation_text::put_refutation;
 use sat_core::{Answer, solve};
 use sequence::NoMemory;
 use std::alloc::Global;
+use tool_ends::{Reply, Status};
 
 /// What is replied to the text that was read.
 pub(crate) fn reply_to_read(
@@ -37,11 +36,9 @@ pub(crate) fn reply_to_read(
 {
     match reader.finish() {
         Ok(cnf) => reply_to_formula(alloc, request, cnf),
-        Err(CnfError::Form(line)) => Reply::refusal(alloc, Refusal::MalformedAt(line)),
-        Err(CnfError::Variables) => {
-            Reply::refusal(alloc, Refusal::TooManyVariables(MOST_VARIABLES))
-        }
-        Err(CnfError::Clauses) => Reply::refusal(alloc, Refusal::TooManyClauses(MOST_CLAUSES)),
+        Err(CnfError::Form(line)) => Refusal::MalformedAt(line).reply(alloc),
+        Err(CnfError::Variables) => Refusal::TooManyVariables(MOST_VARIABLES).reply(alloc),
+        Err(CnfError::Clauses) => Refusal::TooManyClauses(MOST_CLAUSES).reply(alloc),
         Err(CnfError::NoMemory) => Err(NoMemory),
     }
 }
@@ -111,7 +108,7 @@ fn satisfiable(alloc: Global, truths: &[bool]) -> Result<Reply, NoMemory>
     ensures { IfOk result (IsSatisfiableReply truths.now) }
 {
     let text = satisfiable_text(alloc, truths)?;
-    Ok(Reply::new(Status::Satisfiable, text))
+    Ok(Reply::new(Status::Done, text))
 }
 
 /// That no assignment meets all clauses, with the formula and the log where the log is wanted.
@@ -126,7 +123,7 @@ fn unsatisfiable(alloc: Global, with_log: bool, cnf: &Cnf, log: &Log) -> Result<
     } else {
         Vec::from_slice(alloc, b"s UNSATISFIABLE\n")?
     };
-    Ok(Reply::new(Status::Unsatisfiable, text))
+    Ok(Reply::new(Status::No, text))
 }
 
 /// The text of a formula and of a log that refutes it.
@@ -154,5 +151,5 @@ fn unknown(alloc: Global) -> Result<Reply, NoMemory>
     ensures { IfOk result IsUnknownReply }
 {
     let text = Vec::from_slice(alloc, b"s UNKNOWN\n")?;
-    Ok(Reply::new(Status::Unknown, text))
+    Ok(Reply::new(Status::Spent, text))
 }

@@ -1,5 +1,5 @@
--- The statuses and texts of replies.
-use Rattle.std.proofs.Common.{◌≡◌, ◌≢◌, ℕ, Bool, true, false, List, [], ◌∷◌, ◌++◌, refl, ap, sym, ◌∙◌}
+-- The statuses and texts of replies at faults.
+use Rattle.std.proofs.Common.{◌≡◌, ◌≢◌, ℕ, true, false, List, [], refl, ap, sym, ◌∙◌}
 use Rattle.program_check.specs.declared.verdict.Limit.{Limit}
 use Rattle.program_check.specs.declared.verdict.Limit.TheVariants.{Predicates, Bits, Choices, States, Edges, Vectors, Clauses, Branches}
 use Rattle.tsl_reader.specs.declared.SpecError.{SpecError}
@@ -8,30 +8,12 @@ use Rattle.tsl_reader.specs.declared.SpecError.TheVariants.{DeepUse, Nodes, NoMe
 use Rattle.tsl_report.specs.declared.fault.Fault.{Fault}
 use Rattle.tsl_report.specs.declared.fault.Fault.TheVariants as faults
 use Rattle.tsl_report.specs.FaultText.{fault_line, fault_text}
-use Rattle.tool_replies.specs.declared.status.Status.{Status}
-use Rattle.tool_replies.specs.declared.status.Status.TheVariants.{Done, No, Usage, Reading, Large, Spent, ReadFault, WriteFault, Memory}
-use Rattle.tool_replies.specs.declared.reply.Reply.{Reply}
+use Rattle.tool_ends.specs.declared.status.Status.TheVariants.{Done, No, Large}
+use Rattle.tool_ends.specs.declared.reply.Reply.{Reply}
 use Rattle.tool_replies.specs.Refusals.{IsFaultOf, fault_at_limit}
 use Rattle.tool_replies.specs.Replies.{fault_status, fault_reply}
-use Rattle.tool_replies.specs.Statuses.{is_answer}
-
-pub status_of : {a b : Reply} → a ≡ b → a.status ≡ b.status
-status_of h = ap (λ (r : Reply). r.status) h
-
-pub text_of : {a b : Reply} → a ≡ b → a.text ≡ b.text
-text_of h = ap (λ (r : Reply). r.text) h
-
--- whether a command may reply so to bytes
-abbrev pub comes_of_bytes : Status → Bool
-comes_of_bytes Done = true
-comes_of_bytes No = true
-comes_of_bytes Reading = true
-comes_of_bytes Large = true
-comes_of_bytes Spent = true
-comes_of_bytes Usage = false
-comes_of_bytes ReadFault = false
-comes_of_bytes WriteFault = false
-comes_of_bytes Memory = false
+use Rattle.tool_ends.specs.Statuses.{is_answer}
+use Rattle.tool_ends.proofs.Replying.{status_of, text_of, comes_of_bytes, some_byte}
 
 pub refusal_comes : (bytes : List ℕ) (error : SpecError) (fault : Fault) → IsFaultOf bytes error fault →
     comes_of_bytes (fault_status fault) ≡ true
@@ -48,16 +30,6 @@ refusal_comes bytes Nodes fault h = ap (λ f. comes_of_bytes (fault_status f)) h
 refusal_comes bytes NoMemory fault h = absurd h
 
 -- the fault of a limit
-pub limit_comes : (limit : Limit) → comes_of_bytes (fault_status (fault_at_limit limit)) ≡ true
-limit_comes Predicates = refl
-limit_comes Bits = refl
-limit_comes Choices = refl
-limit_comes States = refl
-limit_comes Edges = refl
-limit_comes Vectors = refl
-limit_comes Clauses = refl
-limit_comes Branches = refl
-
 pub limit_status : (limit : Limit) → fault_status (fault_at_limit limit) ≡ Large
 limit_status Predicates = refl
 limit_status Bits = refl
@@ -68,21 +40,13 @@ limit_status Vectors = refl
 limit_status Clauses = refl
 limit_status Branches = refl
 
+pub limit_comes : (limit : Limit) → comes_of_bytes (fault_status (fault_at_limit limit)) ≡ true
+limit_comes limit = ap comes_of_bytes (limit_status limit)
+
 pub limit_is_large : (limit : Limit) → is_answer (fault_status (fault_at_limit limit)) ≡ false
-limit_is_large Predicates = refl
-limit_is_large Bits = refl
-limit_is_large Choices = refl
-limit_is_large States = refl
-limit_is_large Edges = refl
-limit_is_large Vectors = refl
-limit_is_large Clauses = refl
-limit_is_large Branches = refl
+limit_is_large limit = ap is_answer (limit_status limit)
 
 -- each reply has a text
-some_byte : (xs : List ℕ) (y : ℕ) → xs ++ y ∷ [] ≢ []
-some_byte [] y e = cc
-some_byte (x ∷ xs) y e = cc
-
 pub line_says : (fault : Fault) → fault_text fault ≢ []
 line_says fault = some_byte (fault_line fault) 10
 
@@ -90,7 +54,7 @@ pub fault_says : (fault : Fault) (reply : Reply) → reply ≡ fault_reply fault
 fault_says fault reply is e = line_says fault (sym (text_of is) ∙ e)
 
 -- no fault is an answer
-fault_is_no_answer : (fault : Fault) → is_answer (fault_status fault) ≡ false
+pub fault_is_no_answer : (fault : Fault) → is_answer (fault_status fault) ≡ false
 fault_is_no_answer faults.Usage = refl
 fault_is_no_answer faults.Read = refl
 fault_is_no_answer (faults.Large name limit) = refl

@@ -2,4 +2,3 @@ pub mod HeadLines
 pub mod RefusalPlaces
 pub mod Refusals
 pub mod Replies
-pub mod Statuses

@@ -2,9 +2,9 @@
 use Rattle.tsl_report.specs.declared.fault.Fault.{Fault}
 use Rattle.tsl_report.specs.declared.fault.Fault.TheVariants.{Usage as WrongWords, Read, Large as PastLimit}
 use Rattle.tsl_report.specs.FaultText.{fault_text}
-use Rattle.tool_replies.specs.declared.status.Status.{Status}
-use Rattle.tool_replies.specs.declared.status.Status.TheVariants.{Usage, Reading, Large, ReadFault}
-use Rattle.tool_replies.specs.declared.reply.Reply.{Reply}
+use Rattle.tool_ends.specs.declared.status.Status.{Status}
+use Rattle.tool_ends.specs.declared.status.Status.TheVariants.{Usage, Reading, Large, ReadFault}
+use Rattle.tool_ends.specs.declared.reply.Reply.{Reply}
 
 -- the status at a fault
 abbrev pub fault_status : Fault → Status

@@ -1,5 +1,5 @@
 -- Where a task can be answered and nothing fails, the run ends with an answer to it, or memory runs out.
-use Rattle.std.proofs.Common.{◌≡◌, ℕ, ◌<◌, ◌≤◌, ◌⊎◌, true, false, List, [], length, inl, inr, refl, ap, sym, ◌∙◌, subst, arith}
+use Rattle.std.proofs.Common.{◌≡◌, ℕ, ◌<◌, ◌≤◌, ◌⊎◌, true, false, List, [], length, inl, inr, ⊎_elim, refl, ap, sym, ◌∙◌, subst, arith}
 use Rattle.std.specs.Prelude.{Option, Some, None}
 use Rattle.command_words.specs.declared.task.SynthSizes.{SynthSizes}
 use Rattle.command_words.specs.declared.task.Task.{Task}
@@ -12,18 +12,20 @@ use Rattle.refinement_loop.specs.Outcomes.{IsLargeFor}
 use Rattle.tsl_io.specs.Effects.{Effect, HasFailed, ContentsAre}
 use Rattle.tsl_terms.specs.SpecTree.{SpecTree}
 use Rattle.tsl_reader.specs.Spells.{Spells}
-use Rattle.tool_replies.specs.declared.status.Status.{Status}
-use Rattle.tool_replies.specs.declared.status.Status.TheVariants.{Done, Spent, ReadFault, Memory}
-use Rattle.tool_replies.specs.declared.reply.Reply.{Reply}
+use Rattle.tool_ends.specs.declared.status.Status.{Status}
+use Rattle.tool_ends.specs.declared.status.Status.TheVariants.{Done, Spent, ReadFault, Memory}
+use Rattle.tool_ends.specs.declared.reply.Reply.{Reply}
 use Rattle.tsl_tool.specs.Answerable.{CanBeAnswered, CanBeRead, NoneFails, is_answer_to}
-use Rattle.tsl_tool.specs.Ends.{CountsReads, IsReplyTo, Ends, answered, cut_off, out_of_memory}
+use Rattle.tool_ends.specs.Ends.{CountsReads, answered, cut_off, out_of_memory}
+use Rattle.tool_ends.proofs.Ending.{fault_at}
+use Rattle.tsl_tool.specs.Ends.{IsReplyTo, Ends}
 use Rattle.tsl_tool.specs.Outcome.{TaskOutcome, Outcome, usage, source_failed, too_long, on_bytes}
 use Rattle.tsl_tool.specs.Tasks.{bound_asked, most_bytes, search_sizes}
-use Rattle.tsl_tool.proofs.EndLaws.{fault_at, on_any_bytes}
+use Rattle.tsl_tool.proofs.EndLaws.{on_any_bytes}
 use Rattle.search_replies.proofs.GenReplies.{gen_answers}
 use Rattle.judging_replies.proofs.OneInput.{ReadOnce}
 use Rattle.search_replies.proofs.ProveReplies.{question_answers}
-use Rattle.tool_replies.proofs.Statuses.{status_of}
+use Rattle.tool_ends.proofs.Replying.{status_of}
 use Rattle.search_replies.proofs.SynthReplies.{search_answers, controller_found}
 use Rattle.tsl_tool.proofs.ExchangesCome.{circuit_answers, automaton_answers, accepts_answers}
 use Rattle.tsl_tool.proofs.VerdictsCome.{check_answers, run_answers, recheck_answers}
@@ -81,26 +83,18 @@ pub ends_of_task : (words : List (List ℕ)) (task : Task) (bytes : List ℕ) (s
 ends_of_task words task bytes source out err result asks read none (answered reply h is whole other) =
     inl (reply, is, of_task words task bytes source asks read none.no_read_fault reply h h.outcome)
 ends_of_task words task bytes source out err result asks read none (cut_off reply h is part other) =
-    absurd (neither (fault_at reply.status out err reply.text part))
-  where
-    neither : HasFailed out ⊎ HasFailed err → ⊥
-    neither (inl fault) = none.no_fault_of_out fault
-    neither (inr fault) = none.no_fault_of_err fault
+    absurd (⊎_elim none.no_fault_of_out none.no_fault_of_err (fault_at reply.status out err reply.text part))
 ends_of_task words task bytes source out err result asks read none (out_of_memory is same_out same_err) = inr is
 
 pub answers_come : ReadOnce → (words : List (List ℕ)) (task : Task) (bytes : List ℕ) (source out err : Effect) (result : Status) →
     ParsesTo words task → CanBeRead (most_bytes task) source bytes → CanBeAnswered task bytes → NoneFails source out err →
     Ends words source out err result → (is_answer_to task result ≡ true) ⊎ (result ≡ Memory)
 answers_come once words task bytes source out err result asks read can none ends =
-    by (ends_of_task words task bytes source out err result asks read none ends)
+    ⊎_elim (λ told. inl (ap (is_answer_to task) told.1 ∙ task_answers once task bytes told.0 few can told.2)) inr
+    (ends_of_task words task bytes source out err result asks read none ends)
   where
     few : AreFew task bytes
     few most is = (subst (λ (m : Option ℕ). CanBeRead m source bytes) is read).1
-
-    by : ((reply : Reply) × (result ≡ reply.status) × TaskOutcome task bytes reply) ⊎ (result ≡ Memory) →
-        (is_answer_to task result ≡ true) ⊎ (result ≡ Memory)
-    by (inl (reply, is, outcome)) = inl (ap (is_answer_to task) is ∙ task_answers once task bytes reply few can outcome)
-    by (inr memory) = inr memory
 
 -- where a controller of the size has an annotation within the bound without windows, a program is written, or the budget is spent
 pub program_or_spent : (words : List (List ℕ)) (sizes : SynthSizes) (bytes : List ℕ) (spec : SpecTree) (source out err : Effect)
@@ -108,14 +102,9 @@ pub program_or_spent : (words : List (List ℕ)) (sizes : SynthSizes) (bytes : L
     HasSolution spec [] sizes.states (bound_asked sizes.bound) → ((limit : Limit) → IsLargeFor spec [] sizes.states (bound_asked sizes.bound) limit → ⊥) →
     NoneFails source out err → Ends words source out err result → ((result ≡ Done) ⊎ (result ≡ Spent)) ⊎ (result ≡ Memory)
 program_or_spent words sizes bytes spec source out err result asks read spells solution within none ends =
-    by (ends_of_task words (Synth sizes) bytes source out err result asks read none ends)
+    ⊎_elim (λ told. inl (either told.1 (controller_found (search_sizes sizes) bytes spec spells solution told.0 within told.2))) inr
+    (ends_of_task words (Synth sizes) bytes source out err result asks read none ends)
   where
-    either : (reply : Reply) → result ≡ reply.status → (reply.status ≡ Done) ⊎ (reply.status ≡ Spent) → (result ≡ Done) ⊎ (result ≡ Spent)
-    either reply is (inl done) = inl (is ∙ done)
-    either reply is (inr spent) = inr (is ∙ spent)
-
-    by : ((reply : Reply) × (result ≡ reply.status) × TaskOutcome (Synth sizes) bytes reply) ⊎ (result ≡ Memory) →
-        ((result ≡ Done) ⊎ (result ≡ Spent)) ⊎ (result ≡ Memory)
-    by (inl (reply, is, outcome)) =
-        inl (either reply is (controller_found (search_sizes sizes) bytes spec spells solution reply within outcome))
-    by (inr memory) = inr memory
+    either : {status : Status} → result ≡ status → (status ≡ Done) ⊎ (status ≡ Spent) → (result ≡ Done) ⊎ (result ≡ Spent)
+    either is (inl done) = inl (is ∙ done)
+    either is (inr spent) = inr (is ∙ spent)

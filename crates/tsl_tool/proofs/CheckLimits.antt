@@ -6,7 +6,7 @@ use Rattle.flow_program.specs.Reading.{HasProgramCause}
 use Rattle.program_check.specs.declared.verdict.Limit.{Limit}
 use Rattle.program_check.specs.Verdicts.{IsPassed}
 use Rattle.program_check.proofs.PassedLimits.{no_verdict}
-use Rattle.tool_replies.specs.declared.reply.Reply.{Reply}
+use Rattle.tool_ends.specs.declared.reply.Reply.{Reply}
 use Rattle.tool_replies.specs.Refusals.{fault_at_limit}
 use Rattle.tool_replies.specs.Replies.{fault_reply}
 use Rattle.tool_replies.proofs.RefusalLaws.{not_refused}

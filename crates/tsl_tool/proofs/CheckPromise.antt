@@ -7,9 +7,9 @@ use Rattle.program_check.specs.Verdicts.{IsVerdict, HasFewBits}
 use Rattle.tsl_meaning.specs.Promise.{Realizes}
 use Rattle.tsl_report.specs.declared.fault.Head.TheVariants.{Program}
 use Rattle.tsl_report.specs.declared.fault.Fault.TheVariants.{Parts}
-use Rattle.tool_replies.specs.declared.status.Status.{Status}
-use Rattle.tool_replies.specs.declared.reply.Reply.{Reply}
-use Rattle.tool_replies.specs.declared.status.Status.TheVariants.{Done, No}
+use Rattle.tool_ends.specs.declared.status.Status.{Status}
+use Rattle.tool_ends.specs.declared.reply.Reply.{Reply}
+use Rattle.tool_ends.specs.declared.status.Status.TheVariants.{Done, No}
 use Rattle.tool_replies.specs.Refusals.{fault_at_limit}
 use Rattle.judging_replies.specs.Check.{CheckParts, AreCheckParts, CheckInput, SpellCheckInput, verdict_reply}
 use Rattle.judging_replies.specs.Check.{VerdictOutcome, too_large, judged, spec_refused, program_refused, both_spelled}

@@ -3,9 +3,10 @@ use Rattle.std.proofs.Common.{inl, arith}
 use Rattle.std.specs.Prelude.{ℕ, List, [], ◌∷◌, codes, Some, None, refl}
 use Rattle.tsl_report.specs.declared.fault.Fault.TheVariants.{Usage as WrongWords}
 use Rattle.tsl_report.specs.FaultText.{fault_text}
-use Rattle.tool_replies.specs.declared.status.Status.TheVariants.{Usage, WriteFault}
+use Rattle.tool_ends.specs.declared.status.Status.TheVariants.{Usage, WriteFault}
 use Rattle.tsl_io.specs.Effects.{Effect}
-use Rattle.tsl_tool.specs.Ends.{IsReplyTo, Ends, answered, cut_off}
+use Rattle.tool_ends.specs.Ends.{answered, cut_off}
+use Rattle.tsl_tool.specs.Ends.{IsReplyTo, Ends}
 use Rattle.tsl_tool.specs.Outcome.{usage}
 use Rattle.tool_replies.specs.Replies.{fault_reply}
 

@@ -3,9 +3,9 @@ use Rattle.std.proofs.Common.{◌≡◌, ◌≢◌, ℕ, true, false, List, refl
 use Rattle.command_words.specs.declared.task.Task.TheVariants.{Check, Circuit, Automaton, Accepts}
 use Rattle.tsl_report.specs.declared.fault.Head.TheVariants.{Letters}
 use Rattle.tsl_report.specs.declared.fault.Fault.TheVariants.{Parts, LettersForm}
-use Rattle.tool_replies.specs.declared.status.Status.{Status}
-use Rattle.tool_replies.specs.declared.status.Status.TheVariants.{Done, No}
-use Rattle.tool_replies.specs.declared.reply.Reply.{Reply}
+use Rattle.tool_ends.specs.declared.status.Status.{Status}
+use Rattle.tool_ends.specs.declared.status.Status.TheVariants.{Done, No}
+use Rattle.tool_ends.specs.declared.reply.Reply.{Reply}
 use Rattle.tool_replies.specs.Refusals.{fault_at_limit}
 use Rattle.exchange_replies.specs.Circuit.{CircuitOutcome, not_accepted, accepted}
 use Rattle.exchange_replies.specs.Automaton.{AutomatonOutcome, refused, of_spec, too_large, told}

@@ -19,11 +19,12 @@ use Rattle.tsl_reader.proofs.Causes.{one_spec}
 use Rattle.program_check.specs.declared.verdict.Limit.{Limit}
 use Rattle.program_check.specs.declared.verdict.Verdict.TheVariants.{Yes}
 use Rattle.program_check.specs.Verdicts.{IsPassed}
-use Rattle.tool_replies.specs.declared.reply.Reply.{Reply}
+use Rattle.tool_ends.specs.declared.reply.Reply.{Reply}
 use Rattle.tool_replies.specs.Refusals.{fault_at_limit}
 use Rattle.tool_replies.specs.Replies.{fault_reply}
 use Rattle.tool_replies.proofs.RefusalLaws.{not_refused}
-use Rattle.tool_replies.proofs.Statuses.{status_of, fault_not_done}
+use Rattle.tool_ends.proofs.Replying.{status_of}
+use Rattle.tool_replies.proofs.Statuses.{fault_not_done}
 use Rattle.judging_replies.specs.Check.{CheckParts, AreCheckParts, CheckInput, SpellCheckInput, CheckOutcome, of_texts, both_spelled as both}
 use Rattle.judging_replies.specs.Check.{judged, verdict_reply as check_reply}
 use Rattle.judging_replies.specs.Judged.{IsAcceptedPair}

@@ -5,12 +5,12 @@ use Rattle.command_words.proofs.OneTask.{asking_is_taken, one_task}
 use Rattle.tsl_report.specs.declared.fault.Fault.TheVariants.{Usage as WrongWords, Read, Parts, Large as PastLimit}
 use Rattle.tsl_report.specs.declared.fault.Head.TheVariants.{Lrat}
 use Rattle.tsl_report.specs.declared.fault.LimitName.TheVariants.{Text}
-use Rattle.tool_replies.specs.declared.status.Status.{Status}
-use Rattle.tool_replies.specs.declared.status.Status.TheVariants.{Done, No, Usage, Large, ReadFault, WriteFault, Memory}
+use Rattle.tool_ends.specs.declared.status.Status.{Status}
+use Rattle.tool_ends.specs.declared.status.Status.TheVariants.{Done, No, Usage, Large, ReadFault, WriteFault, Memory}
 use Rattle.command_words.specs.declared.task.Task.{Task}
 use Rattle.command_words.specs.declared.task.Task.TheVariants.{Synth, Check, Run, Prove, Recheck, Gen, Circuit, Automaton, Accepts}
-use Rattle.tool_replies.specs.declared.reply.Reply.{Reply}
-use Rattle.tool_replies.specs.Statuses.{is_answer}
+use Rattle.tool_ends.specs.declared.reply.Reply.{Reply}
+use Rattle.tool_ends.specs.Statuses.{is_answer}
 use Rattle.tsl_tool.specs.Tasks.{search_sizes}
 use Rattle.tool_replies.specs.HeadLines.{IsFirstLineAt}
 use Rattle.judging_replies.specs.Recheck.{without_log, of_parts, head_line}
@@ -24,7 +24,8 @@ use Rattle.search_replies.proofs.ProveReplies.{prove_comes, prove_says}
 use Rattle.judging_replies.proofs.RecheckLaws.{yes_refutes, no_exactly}
 use Rattle.judging_replies.proofs.RecheckReplies.{recheck_comes, recheck_says}
 use Rattle.judging_replies.proofs.RunReplies.{run_comes, run_says}
-use Rattle.tool_replies.proofs.Statuses.{comes_of_bytes, status_of, fault_says}
+use Rattle.tool_ends.proofs.Replying.{comes_of_bytes, status_of}
+use Rattle.tool_replies.proofs.Statuses.{fault_says}
 use Rattle.search_replies.proofs.SynthReplies.{synth_comes, synth_says}
 use Rattle.exchange_replies.proofs.AcceptsReplies.{accepts_comes, accepts_says}
 use Rattle.exchange_replies.proofs.AutomatonReplies.{automaton_comes, automaton_says}

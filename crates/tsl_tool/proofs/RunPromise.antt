@@ -6,9 +6,9 @@ use Rattle.tsl_meaning.specs.RunTree.{RunTree}
 use Rattle.tsl_meaning.specs.RunLasso.{shape_of}
 use Rattle.tsl_report.specs.declared.fault.Fault.TheVariants.{Parts, Large}
 use Rattle.tsl_report.specs.declared.fault.LimitName.TheVariants.{Run as RunLimit}
-use Rattle.tool_replies.specs.declared.status.Status.{Status}
-use Rattle.tool_replies.specs.declared.reply.Reply.{Reply}
-use Rattle.tool_replies.specs.declared.status.Status.TheVariants.{Done, No}
+use Rattle.tool_ends.specs.declared.status.Status.{Status}
+use Rattle.tool_ends.specs.declared.reply.Reply.{Reply}
+use Rattle.tool_ends.specs.declared.status.Status.TheVariants.{Done, No}
 use Rattle.judging_replies.specs.RunParts.{RunParts, AreParts}
 use Rattle.judging_replies.specs.Run.{RunInput, SpellRunInput, HasGivenSignals, IsRunTrace, one_fails, signals_differ, judged_formulas}
 use Rattle.judging_replies.specs.Run.{verdicts_of, run_reply, lasso_of, most_configurations, Closes}

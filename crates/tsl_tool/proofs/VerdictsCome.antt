@@ -18,8 +18,8 @@ use Rattle.tsl_reader.proofs.Causes.{one_spec}
 use Rattle.table_interp.specs.Inputs.{SpellsInputs}
 use Rattle.tsl_report.specs.declared.fault.Head.{Head}
 use Rattle.tsl_report.specs.declared.fault.Fault.{Fault}
-use Rattle.tool_replies.specs.declared.status.Status.TheVariants.{Done, No}
-use Rattle.tool_replies.specs.declared.reply.Reply.{Reply}
+use Rattle.tool_ends.specs.declared.status.Status.TheVariants.{Done, No}
+use Rattle.tool_ends.specs.declared.reply.Reply.{Reply}
 use Rattle.tsl_tool.specs.Answerable.{CanBeChecked, CanBeRun, is_yes_or_no}
 use Rattle.judging_replies.specs.Check.{CheckParts, CheckInput, SpellCheckInput, verdict_reply, VerdictOutcome, too_large, judged}
 use Rattle.judging_replies.specs.Check.{TextsOutcome, spec_refused, program_refused, both_spelled, CheckOutcome, without_program, of_texts}
@@ -36,7 +36,7 @@ use Rattle.judging_replies.specs.RunParts.{program_line, inputs_line}
 use Rattle.judging_replies.proofs.OneInput.{one_place, one_after, one_cut, one_division, one_run_division, one_check_input, one_given, one_program_read}
 use Rattle.judging_replies.proofs.OneInput.{ReadOnce, one_run_input, program_not_refused, meaning_not_refused, inputs_not_refused}
 use Rattle.judging_replies.proofs.RecheckLaws.{is_verdict}
-use Rattle.tool_replies.proofs.Statuses.{status_of}
+use Rattle.tool_ends.proofs.Replying.{status_of}
 use Rattle.tool_replies.proofs.RefusalLaws.{not_refused}
 
 -- ---- `check`

@@ -25,9 +25,10 @@ use Rattle.word_interp.specs.Words.{SpellsWords}
 use Rattle.refinement_loop.specs.declared.outcome.Search.{Search}
 use Rattle.tsl_report.specs.declared.fault.Fault.TheVariants.{Parts, Large}
 use Rattle.tsl_report.specs.declared.fault.LimitName.TheVariants.{Run as RunLimit}
-use Rattle.tool_replies.specs.declared.status.Status.TheVariants.{Done, No}
-use Rattle.tool_replies.specs.declared.reply.Reply.{Reply}
-use Rattle.tool_replies.proofs.Statuses.{status_of, fault_not_no}
+use Rattle.tool_ends.specs.declared.status.Status.TheVariants.{Done, No}
+use Rattle.tool_ends.specs.declared.reply.Reply.{Reply}
+use Rattle.tool_ends.proofs.Replying.{status_of}
+use Rattle.tool_replies.proofs.Statuses.{fault_not_no}
 use Rattle.search_replies.specs.Synth.{IsWritten, OfSpec}
 use Rattle.judging_replies.specs.declared.parting.Style.{Style}
 use Rattle.judging_replies.specs.declared.parting.Style.TheVariants.{Tables, Words}

@@ -10,8 +10,8 @@ use Rattle.refinement_loop.specs.declared.outcome.Bound.TheVariants.{Fixed}
 use Rattle.refinement_loop.specs.Outcomes.{IsLargeFor, IsLargeAfter}
 use Rattle.tsl_io.specs.Effects.{Effect, HasFailed}
 use Rattle.tsl_meaning.specs.RunOf.{AreDifferent}
-use Rattle.tool_replies.specs.declared.status.Status.{Status}
-use Rattle.tool_replies.specs.declared.status.Status.TheVariants.{Done, No, Usage, Reading, Large, Spent, ReadFault, WriteFault, Memory}
+use Rattle.tool_ends.specs.declared.status.Status.{Status}
+use Rattle.tool_ends.specs.declared.status.Status.TheVariants.{Done, No, Usage, Reading, Large, Spent, ReadFault, WriteFault, Memory}
 use Rattle.judging_replies.specs.Check.{CheckParts, AreCheckParts, CheckInput, SpellCheckInput}
 use Rattle.search_replies.specs.Gen.{OfGenerated}
 use Rattle.judging_replies.specs.Recheck.{FormulaAndLog, OfParts}
@@ -20,7 +20,7 @@ use Rattle.judging_replies.specs.RunParts.{RunParts, AreParts}
 use Rattle.exchange_replies.specs.Automaton.{IsPastFor}
 use Rattle.automaton_text.specs.HoaRefusals.{IsSmall}
 use Rattle.exchange_replies.specs.Accepts.{OfAcceptsInput}
-use Rattle.tool_replies.specs.Statuses.{is_answer}
+use Rattle.tool_ends.specs.Statuses.{is_answer}
 use Rattle.search_replies.specs.Synth.{OfSpec}
 use Rattle.tsl_tool.specs.Tasks.{search_sizes}
 

@@ -5,7 +5,7 @@ use Rattle.command_words.specs.declared.task.Task.TheVariants.{Synth, Check, Run
 use Rattle.command_words.specs.Commands.{ParsesTo, are_taken}
 use Rattle.tsl_report.specs.declared.fault.LimitName.TheVariants.{Text}
 use Rattle.tsl_report.specs.declared.fault.Fault.TheVariants.{Usage, Read, Large}
-use Rattle.tool_replies.specs.declared.reply.Reply.{Reply}
+use Rattle.tool_ends.specs.declared.reply.Reply.{Reply}
 use Rattle.search_replies.specs.Gen.{GenOutcome}
 use Rattle.tsl_tool.specs.Tasks.{AreFewBytes, most_bytes, search_sizes}
 use Rattle.tool_replies.specs.Replies.{fault_reply}

@@ -2,8 +2,8 @@
 use Rattle.std.specs.Prelude.{◌≡◌, ℕ, List, codes}
 use Rattle.command_words.specs.declared.task.Task.{Task}
 use Rattle.command_words.specs.declared.task.Task.TheVariants.{Synth, Check, Run, Prove, Recheck, Gen, Circuit, Automaton, Accepts}
-use Rattle.tool_replies.specs.declared.status.Status.{Status}
-use Rattle.tool_replies.specs.declared.status.Status.TheVariants.{Done, No, Spent}
+use Rattle.tool_ends.specs.declared.status.Status.{Status}
+use Rattle.tool_ends.specs.declared.status.Status.TheVariants.{Done, No, Spent}
 use Rattle.search_replies.specs.Synth.{IsWritten, TellsNone, TellsSpent, TellsSpentOn, OfSpec}
 use Rattle.search_replies.specs.Prove.{IsProof, TellsSatisfiable}
 use Rattle.judging_replies.specs.Check.{IsAcceptedProgram, IsRefusedProgram}

@@ -22,8 +22,8 @@ ghost use Rattle.refinement_loop.specs.Outcomes.{IsLargeFor, IsLargeAfter};
 ghost use Rattle.tsl_meaning.specs.Lasso.{Meets};
 ghost use Rattle.tsl_meaning.specs.RunLasso.{shape_of};
 ghost use Rattle.tsl_meaning.specs.RunTree.{RunTree};
-ghost use Rattle.tool_replies.specs.declared.reply.Reply.{Reply};
-ghost use Rattle.tool_replies.specs.declared.status.Status.{Status};
+ghost use Rattle.tool_ends.specs.declared.reply.Reply.{Reply};
+ghost use Rattle.tool_ends.specs.declared.status.Status.{Status};
 ghost use Rattle.tsl_tool.specs.Causes.{Causes};
 ghost use Rattle.tsl_io.specs.Effects.{Effect};
 ghost use Rattle.tsl_tool.specs.Ends.{Ends};
@@ -40,11 +40,11 @@ ghost use Rattle.judging_replies.specs.Check.{AreCheckParts, CheckInput, CheckOu
 ghost use Rattle.judging_replies.specs.Recheck.{IsAccepted, IsRefused, RecheckOutcome, parts_reply, verdict};
 ghost use Rattle.judging_replies.specs.Run.{RunInput, RunOutcome, lasso_of, judged_formulas, verdicts_of, run_reply};
 ghost use Rattle.exchange_replies.specs.Circuit.{CircuitOutcome};
-ghost use Rattle.tool_replies.specs.Statuses.{is_answer};
+ghost use Rattle.tool_ends.specs.Statuses.{is_answer};
 ghost use Rattle.search_replies.specs.Synth.{SynthOutcome};
 
 use table_interp::what_is_spelled_has_a_meaning;
-use tool_replies::Status;
+use tool_ends::Status;
 use word_interp::what_is_spelled_has_a_meaning as what_words_spell_has_a_meaning;
 
 /// A text spells at most one specification.

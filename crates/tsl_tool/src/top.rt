@@ -1,17 +1,17 @@
 //! The top call.
 
-ghost use Rattle.std.specs.Prelude.{◌≡◌, ◌≢◌, ℕ, List, [], map, string_bytes, IsTrue, IfOk, Some};
+ghost use Rattle.std.specs.Prelude.{◌≡◌, ℕ, List, map, string_bytes, IsTrue, IfOk, Some};
 ghost use Rattle.command_words.specs.declared.task.Task.{Task};
 ghost use Rattle.command_words.specs.Commands.{ParsesTo};
 ghost use Rattle.tsl_io.specs.Told.{with_added};
 ghost use Rattle.tsl_io.specs.Effects.{effect, ContentsAre};
-ghost use Rattle.tsl_tool.specs.Ends.{IsReplyTo, Ends, HandedOn};
+ghost use Rattle.tool_ends.specs.Ends.{HandedOn};
+ghost use Rattle.tsl_tool.specs.Ends.{IsReplyTo, Ends};
 ghost use Rattle.tsl_tool.specs.Outcome.{TaskOutcome};
 ghost use Rattle.tsl_tool.specs.Promise.{Promise};
-ghost use Rattle.tool_replies.specs.Statuses.{is_answer};
+ghost use Rattle.tool_ends.specs.Statuses.{is_answer};
 ghost use Rattle.tsl_tool.specs.Tasks.{AreFewBytes, ReadNothing, most_bytes};
 ghost use Rattle.tsl_tool.specs.internal.TaskRanges.{IsTaskInRange};
-ghost use Rattle.tsl_tool.specs.internal.Sending.{IsSent};
 
 use crate::tasks::{most_bytes, search_sizes};
 use command_words::{Task, WordsError, task_of};
@@ -20,8 +20,9 @@ use judging_replies::{check, recheck, run};
 use search_replies::{generate, prove, synth};
 use sequence::NoMemory;
 use std::alloc::Global;
-use tool_replies::{Reply, Status};
-use tsl_io::{Failed, ReadError, Sink, Source, read_all, write_all_of};
+use tool_ends::{Reply, Status, tell};
+use tool_replies::fault_reply;
+use tsl_io::{ReadError, Sink, Source, read_all};
 use tsl_report::{Fault, LimitName};
 
 /// What a run replies, before anything is written.
@@ -32,7 +33,7 @@ fn reply_to<S: Source>(alloc: Global, words: &[String], source: &mut S) -> Resul
 {
     match task_of(alloc, words) {
         Ok(task) => reply_to_task(alloc, words, task, source),
-        Err(WordsError::Usage) => Reply::at_fault(alloc, &Fault::Usage),
+        Err(WordsError::Usage) => fault_reply(alloc, &Fault::Usage),
         Err(WordsError::NoMemory) => Err(NoMemory),
     }
 }
@@ -55,9 +56,9 @@ fn reply_to_task<S: Source>(
     match read_all(alloc, source, most_bytes) {
         Ok(bytes) => reply_to_bytes(alloc, task, &bytes),
         Err(ReadError::TooLong) => {
-            Reply::at_fault(alloc, &Fault::Large(LimitName::Text, most_bytes))
+            fault_reply(alloc, &Fault::Large(LimitName::Text, most_bytes))
         }
-        Err(ReadError::Fault) => Reply::at_fault(alloc, &Fault::Read),
+        Err(ReadError::Fault) => fault_reply(alloc, &Fault::Read),
         Err(ReadError::NoMemory) => Err(NoMemory),
     }
 }
@@ -122,21 +123,5 @@ pub fn tsl<S: Source, O: Sink, E: Sink>(
     // What was written was handed on.
     ensures handed_on { HandedOn result (O.flushed out.new) (E.flushed err.new) }
 {
-    match reply_to(alloc, words, source) {
-        Ok(reply) if reply.status.is_answer() => send(out, &reply),
-        Ok(reply) => send(err, &reply),
-        Err(NoMemory) => Status::Memory,
-    }
-}
-
-/// Writes a reply to its sink, and gives the status of the run.
-fn send<K: Sink>(sink: &mut K, reply: &Reply) -> Status
-    requires says { reply.now.text ≢ [] }
-    ensures sent { IsSent reply.now (effect K.written K.faults sink.old sink.new) result }
-    ensures handed_on { result ≢ Status.WriteFault → K.flushed sink.new }
-{
-    match write_all_of(sink, reply.text.as_slice()) {
-        Ok(()) => reply.status,
-        Err(Failed) => Status::WriteFault,
-    }
+    tell(reply_to(alloc, words, source), out, err)
 }

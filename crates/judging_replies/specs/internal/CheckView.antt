@@ -6,7 +6,7 @@ use Rattle.tsl_terms.specs.SpecTree.{SpecTree}
 use Rattle.tsl_terms.specs.SpecView.{spec_tree}
 use Rattle.program_tree.specs.ProgramTree.{ProgramTree}
 use Rattle.program_tree.specs.ProgramView.{program_tree}
-use Rattle.tool_replies.specs.declared.status.Status.TheVariants.{Done}
+use Rattle.tool_ends.specs.declared.status.Status.TheVariants.{Done}
 use Rattle.judging_replies.specs.declared.checking.Texts.{Texts}
 use Rattle.judging_replies.specs.declared.checking.Judged.{Judged}
 use Rattle.judging_replies.specs.declared.checking.Judged.TheVariants.{Accepted, Replied}

@@ -25,5 +25,5 @@ returns-in-Ok c =
 pub returns-in-Err-Form : goal.returns-in-Err-Form
 returns-in-Err-Form c =
     letters_refused_told (record { automaton = c.args.text.now; letters = c.args.letters.now }) c.args.hoa.now.bits
-    c.args.hoa.now.automaton.states (edge_trees c.args.hoa.now.automaton.edges) c.requires.spelled c.requires.small c.in-Err-Form.line c.at_fault.result
-    (c.read_letters.ensures.form c.in-Err-Form.line (c.in-Err-Form.is ∙ ap Err c.in-Err-Form.field-0-is)) c.at_fault.ensures
+    c.args.hoa.now.automaton.states (edge_trees c.args.hoa.now.automaton.edges) c.requires.spelled c.requires.small c.in-Err-Form.line c.fault_reply.result
+    (c.read_letters.ensures.form c.in-Err-Form.line (c.in-Err-Form.is ∙ ap Err c.in-Err-Form.field-0-is)) c.fault_reply.ensures

@@ -12,11 +12,11 @@ fault_of-requires-clause-stands c = cause_stands c.args.bytes.now c.in-Err.error
 
 pub returns-in_ok-fault-in-Err : goal.returns-in_ok-fault-in-Err
 returns-in_ok-fault-in-Err c =
-    spec_refused c.args.bytes.now c.in_ok-fault-in-Err.fault c.at_fault.result
+    spec_refused c.args.bytes.now c.in_ok-fault-in-Err.fault c.fault_reply.result
     (record {
       error = c.in-Err.error;
       cause = c.in-Err.ensures.cause;
       spells_none = c.in-Err.ensures.refused;
       is_fault = c.in_ok-fault-in-Err.ensures;
     })
-    c.at_fault.ensures
+    c.fault_reply.ensures

@@ -10,6 +10,6 @@ returns-in-Ok c = automaton_told (spec_tree c.args.spec.now) c.automaton_reply.r
 
 pub returns-in-Err-Large : goal.returns-in-Err-Large
 returns-in-Err-Large c =
-    limit_told (spec_tree c.args.spec.now) c.in-Err-Large.limit c.fault_of_limit.result c.at_fault.result
+    limit_told (spec_tree c.args.spec.now) c.in-Err-Large.limit c.fault_of_limit.result c.fault_reply.result
     (subst (λ (e : CheckError). HasAutomatonCause (spec_tree c.args.spec.now) e) c.in-Err-Large.field-0-is c.in-Err-Large.ensures.cause)
-    c.fault_of_limit.ensures c.at_fault.ensures
+    c.fault_of_limit.ensures c.fault_reply.ensures

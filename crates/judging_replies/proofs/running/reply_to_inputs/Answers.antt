@@ -62,10 +62,10 @@ returns-in-Ok c =
 
 pub returns-in_ok-fault-in-Err : goal.returns-in_ok-fault-in-Err
 returns-in_ok-fault-in-Err c =
-    refused_outcome (run_parts c.args.parts.now) c.in_ok-fault-in-Err.fault c.at_fault.result
+    refused_outcome (run_parts c.args.parts.now) c.in_ok-fault-in-Err.fault c.fault_reply.result
     (in_inputs (given_spec c.args.spec) c.args.names.now (program_tree c.args.program.now) (interpretation_read c.args.meaning.now) c.in-Err.error
     c.requires.spec c.requires.program c.requires.spells
     (rw (c.as_slice.ensures, c.domain-domain.ensures) at c.in-Err.ensures.cause)
     (rw (c.as_slice.ensures, c.domain-domain.ensures) at c.in-Err.ensures.refused)
     c.in_ok-fault-in-Err.ensures)
-    c.at_fault.ensures
+    c.fault_reply.ensures

@@ -17,10 +17,10 @@ read_meaning-requires-clause-distinct c =
 
 pub returns-in-Err-AtFault : goal.returns-in-Err-AtFault
 returns-in-Err-AtFault c =
-    refused_outcome (run_parts c.args.parts.now) c.in-Err-AtFault.fault c.at_fault.result
+    refused_outcome (run_parts c.args.parts.now) c.in-Err-AtFault.fault c.fault_reply.result
     (in_meaning (given_spec c.args.spec) c.args.names.now (program_tree c.args.program.now) c.requires.spec c.requires.program
     (rw (c.in-Err-AtFault.field-0-is, c.as_slice.ensures) at c.in-Err-AtFault.ensures.refused))
-    c.at_fault.ensures
+    c.fault_reply.ensures
 
 pub reply_to_inputs-requires-clause-means : goal.reply_to_inputs-requires-clause-means
 reply_to_inputs-requires-clause-means c = rw c.as_slice.ensures at c.in-Ok.ensures.means

@@ -22,7 +22,7 @@ fault_of_program-requires c =
 
 pub returns-in_ok-fault-in-Err : goal.returns-in_ok-fault-in-Err
 returns-in_ok-fault-in-Err c =
-    refused_outcome (run_parts c.args.parts.now) c.in_ok-fault-in-Err.fault c.at_fault.result
+    refused_outcome (run_parts c.args.parts.now) c.in_ok-fault-in-Err.fault c.fault_reply.result
     (in_program (given_spec c.args.spec) c.in-Err.error c.requires.spec (rw (← c.requires.names) c.in-Err.ensures.cause)
     c.in_ok-fault-in-Err.ensures)
-    c.at_fault.ensures
+    c.fault_reply.ensures

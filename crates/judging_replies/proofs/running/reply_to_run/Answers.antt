@@ -53,4 +53,4 @@ returns-else-not-branch c =
 pub returns-in-Err-NoLoop : goal.returns-in-Err-NoLoop
 returns-in-Err-NoLoop c =
     too_long_seen (given_spec c.args.spec) c.args.names.now (program_tree c.args.program.now) (interpretation_read c.args.meaning.now) c.args.inputs.now
-    (meanings_read c.args.meaning.now) (c.requires.means (program_tree c.args.program.now) refl) c.at_fault.result (c.in-Err-NoLoop.ensures.no_loop c.in-Err-NoLoop.field-0-is) c.at_fault.ensures
+    (meanings_read c.args.meaning.now) (c.requires.means (program_tree c.args.program.now) refl) c.fault_reply.result (c.in-Err-NoLoop.ensures.no_loop c.in-Err-NoLoop.field-0-is) c.fault_reply.ensures

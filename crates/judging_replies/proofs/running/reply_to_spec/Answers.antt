@@ -9,11 +9,11 @@ fault_of-requires-clause-stands c = cause_stands c.args.parts.now.spec.now c.in-
 
 pub returns-in_ok-fault-in-Err : goal.returns-in_ok-fault-in-Err
 returns-in_ok-fault-in-Err c =
-    refused_outcome (run_parts c.args.parts.now) c.in_ok-fault-in-Err.fault c.at_fault.result
+    refused_outcome (run_parts c.args.parts.now) c.in_ok-fault-in-Err.fault c.fault_reply.result
     (in_spec (not_empty c.args.parts.now.spec.now c.is_empty.result c.is_empty.ensures c.if-is_empty.false) (record {
       error = c.in-Err.error;
       cause = c.in-Err.ensures.cause;
       spells_none = c.in-Err.ensures.refused;
       is_fault = c.in_ok-fault-in-Err.ensures;
     }))
-    c.at_fault.ensures
+    c.fault_reply.ensures

@@ -8,4 +8,4 @@ returns-in-Ok c =
 
 pub returns-in-Err : goal.returns-in-Err
 returns-in-Err c =
-    missing_outcome c.args.bytes.now c.in-Err.head c.at_fault.result c.in-Err.ensures.lacks c.at_fault.ensures
+    missing_outcome c.args.bytes.now c.in-Err.head c.fault_reply.result c.in-Err.ensures.lacks c.fault_reply.ensures

@@ -49,5 +49,5 @@ returns-in-Err-Large c =
     let spec = spec_tree c.args.spec.now in
     let sizes = c.generated_sizes.result in
     let after = subst (λ (e : RefineError). HasRefineCause spec (search_of sizes) e) c.in-Err-Large.field-0-is c.in-Err-Large.ensures.cause in
-    limit_outcome c.args.n spec c.at_fault.result sizes (map round_tree c.in-Err-Large.field-0-1) c.in-Err-Large.limit
-    c.fault_of_limit.result c.generated_sizes.ensures after.few_rounds after.large c.fault_of_limit.ensures c.at_fault.ensures
+    limit_outcome c.args.n spec c.fault_reply.result sizes (map round_tree c.in-Err-Large.field-0-1) c.in-Err-Large.limit
+    c.fault_of_limit.result c.generated_sizes.ensures after.few_rounds after.large c.fault_of_limit.ensures c.fault_reply.ensures

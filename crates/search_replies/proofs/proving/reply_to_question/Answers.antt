@@ -8,7 +8,7 @@ use Rattle.search_replies.proofs.proving.reply_to_question.Goals as goal
 
 pub returns-in-Err-Large : goal.returns-in-Err-Large
 returns-in-Err-Large c =
-    too_large_outcome c.args.sizes.now (spec_tree c.args.spec.now) c.in-Err-Large.limit c.fault_of_limit.result c.at_fault.result
+    too_large_outcome c.args.sizes.now (spec_tree c.args.spec.now) c.in-Err-Large.limit c.fault_of_limit.result c.fault_reply.result
     (subst (λ (e : CheckError). HasAskCause (spec_tree c.args.spec.now) [] c.args.sizes.now.states (Fixed c.args.sizes.now.bound) e)
     c.in-Err-Large.field-0-is c.in-Err-Large.ensures.cause)
-    c.fault_of_limit.ensures c.at_fault.ensures
+    c.fault_of_limit.ensures c.fault_reply.ensures

@@ -13,5 +13,5 @@ fault_of-requires-clause-stands c = cause_stands c.args.bytes.now c.in-Err.error
 
 pub returns-in_ok-fault-in-Err : goal.returns-in_ok-fault-in-Err
 returns-in_ok-fault-in-Err c =
-    refused_outcome c.args.search c.args.bytes.now c.in-Err.error c.in_ok-fault-in-Err.fault c.at_fault.result
-    c.in-Err.ensures.cause c.in-Err.ensures.refused c.in_ok-fault-in-Err.ensures c.at_fault.ensures
+    refused_outcome c.args.search c.args.bytes.now c.in-Err.error c.in_ok-fault-in-Err.fault c.fault_reply.result
+    c.in-Err.ensures.cause c.in-Err.ensures.refused c.in_ok-fault-in-Err.ensures c.fault_reply.ensures

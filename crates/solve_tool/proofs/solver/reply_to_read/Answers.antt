@@ -22,19 +22,19 @@ reply_to_formula-requires-clause-few_clauses c =
 
 pub returns-in-Err-Form : goal.returns-in-Err-Form
 returns-in-Err-Form c =
-    refused_reply c.refusal.result c.args.request c.args.reader (form_at c.in-Err-Form.line) (MalformedAt c.in-Err-Form.line)
+    refused_reply c.reply.result c.args.request c.args.reader (form_at c.in-Err-Form.line) (MalformedAt c.in-Err-Form.line)
     (λ text read. subst (λ (e : CnfError). IsGiven (cnf_answer text) (Err e)) c.in-Err-Form.field-0-is (c.in-Err-Form.ensures text read))
     (λ reply is. is)
-    (subst (λ (line : ℕ). IfOk c.refusal.result (λ reply. reply ≡ refusal_reply (MalformedAt line))) c.in-Err-Form.line-is c.refusal.ensures)
+    (subst (λ (line : ℕ). IfOk c.reply.result (λ reply. reply ≡ refusal_reply (MalformedAt line))) c.in-Err-Form.line-is c.reply.ensures)
 
 pub returns-in-Err-Variables : goal.returns-in-Err-Variables
 returns-in-Err-Variables c =
-    refused_reply c.refusal-in-Err-Variables.result c.args.request c.args.reader too_many_variables (TooManyVariables MOST_VARIABLES)
+    refused_reply c.reply-in-Err-Variables.result c.args.request c.args.reader too_many_variables (TooManyVariables MOST_VARIABLES)
     (λ text read. subst (λ (e : CnfError). IsGiven (cnf_answer text) (Err e)) c.in-Err-Variables.field-0-is (c.in-Err-Variables.ensures text read))
-    (λ reply is. is) c.refusal-in-Err-Variables.ensures
+    (λ reply is. is) c.reply-in-Err-Variables.ensures
 
 pub returns-in-Err-Clauses : goal.returns-in-Err-Clauses
 returns-in-Err-Clauses c =
-    refused_reply c.refusal-in-Err-Clauses.result c.args.request c.args.reader too_many_clauses (TooManyClauses MOST_CLAUSES)
+    refused_reply c.reply-in-Err-Clauses.result c.args.request c.args.reader too_many_clauses (TooManyClauses MOST_CLAUSES)
     (λ text read. subst (λ (e : CnfError). IsGiven (cnf_answer text) (Err e)) c.in-Err-Clauses.field-0-is (c.in-Err-Clauses.ensures text read))
-    (λ reply is. is) c.refusal-in-Err-Clauses.ensures
+    (λ reply is. is) c.reply-in-Err-Clauses.ensures

@@ -1,47 +1,13 @@
-use Rattle.std.proofs.Common.{refl, sym, ◌∙◌, map, Global}
-use Rattle.std.specs.Prelude.{string_bytes}
-use Rattle.tsl_io.specs.Effects.{effect}
-use Rattle.solve_tool.proofs.Reacting.{reply_says, out_ends, err_ends, out_promises, err_promises}
+use Rattle.std.proofs.lemmas.Result.{IfOk-weaker}
+use Rattle.tool_ends.proofs.Ending.{ends_with}
+use Rattle.solve_tool.proofs.Reacting.{reply_says, solved_at}
 use Rattle.solve_tool.proofs.top.solve.Goals as goal
 
-pub send-requires : goal.send-requires
-send-requires g c = record {
-  says = reply_says (map (string_bytes {Z = Global}) c.args.words.now)
-      (effect g.S.Source.left g.S.Source.faults c.args.source.now c.reply_to.new.source) c.in-Ok.reply c.in-Ok.ensures.replies;
-}
+pub tell-requires : goal.tell-requires
+tell-requires g c = IfOk-weaker _ _ _ (reply_says _ _) c.reply_to.ensures.replies
 
-pub send-requires-in-Ok-2 : goal.send-requires-in-Ok-2
-send-requires-in-Ok-2 g c = record {
-  says = reply_says (map (string_bytes {Z = Global}) c.args.words.now)
-      (effect g.S.Source.left g.S.Source.faults c.args.source.now c.reply_to.new.source) c.in-Ok.reply c.in-Ok.ensures.replies;
-}
+pub returns-clause-answers : goal.returns-clause-answers
+returns-clause-answers g c = ends_with _ c.reply_to.ensures.replies c.tell.ensures.ends
 
-pub returns-in-Ok-clause-answers : goal.returns-in-Ok-clause-answers
-returns-in-Ok-clause-answers g c =
-    out_ends (map (string_bytes {Z = Global}) c.args.words.now)
-    (effect g.S.Source.left g.S.Source.faults c.args.source.now c.reply_to.new.source)
-    (effect g.O.Sink.written g.O.Sink.faults c.args.out.now c.send.new.sink)
-    (effect g.E.Sink.written g.E.Sink.faults c.args.err.now c.args.err.now)
-    c.in-Ok.reply c.send.result c.in-Ok.ensures.replies (sym c.is_solved.ensures ∙ c.if-is_solved.true) c.send.ensures.sent
-    (record { bytes = refl; count = refl })
-
-pub returns-in-Ok-clause-promises : goal.returns-in-Ok-clause-promises
-returns-in-Ok-clause-promises g c =
-    out_promises (map (string_bytes {Z = Global}) c.args.words.now)
-    (effect g.S.Source.left g.S.Source.faults c.args.source.now c.reply_to.new.source)
-    (effect g.O.Sink.written g.O.Sink.faults c.args.out.now c.send.new.sink)
-    c.in-Ok.reply c.send.result c.in-Ok.ensures.replies (sym c.is_solved.ensures ∙ c.if-is_solved.true) c.send.ensures.sent
-
-pub returns-in-Ok-2-clause-answers : goal.returns-in-Ok-2-clause-answers
-returns-in-Ok-2-clause-answers g c =
-    err_ends (map (string_bytes {Z = Global}) c.args.words.now)
-    (effect g.S.Source.left g.S.Source.faults c.args.source.now c.reply_to.new.source)
-    (effect g.O.Sink.written g.O.Sink.faults c.args.out.now c.args.out.now)
-    (effect g.E.Sink.written g.E.Sink.faults c.args.err.now c.send-in-Ok-2.new.sink)
-    c.in-Ok.reply c.send-in-Ok-2.result c.in-Ok.ensures.replies (sym c.is_solved.ensures ∙ c.if-is_solved.false) c.send-in-Ok-2.ensures.sent
-    (record { bytes = refl; count = refl })
-
-pub returns-in-Ok-2-clause-promises : goal.returns-in-Ok-2-clause-promises
-returns-in-Ok-2-clause-promises g c =
-    err_promises c.in-Ok.reply (effect g.E.Sink.written g.E.Sink.faults c.args.err.now c.send-in-Ok-2.new.sink)
-    c.send-in-Ok-2.result (sym c.is_solved.ensures ∙ c.if-is_solved.false) c.send-in-Ok-2.ensures.sent
+pub returns-clause-promises : goal.returns-clause-promises
+returns-clause-promises g c = solved_at _ _ _ _ _ (ends_with _ c.reply_to.ensures.replies c.tell.ensures.ends)

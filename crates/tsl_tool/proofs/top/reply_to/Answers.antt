@@ -1,7 +1,10 @@
 use Rattle.std.proofs.Common.{map, Global, refl}
 use Rattle.std.specs.Prelude.{string_bytes}
-use Rattle.tsl_io.specs.Effects.{effect}
-use Rattle.tsl_tool.proofs.EndLaws.{usage_reply}
+use Rattle.tsl_io.proofs.Effects.{some_bytes}
+use Rattle.tsl_report.specs.declared.fault.Fault.TheVariants.{Usage as WrongWords}
+use Rattle.tool_ends.proofs.Replying.{one_reply}
+use Rattle.tool_replies.specs.Replies.{fault_reply}
+use Rattle.tsl_tool.specs.Outcome.{usage}
 use Rattle.tsl_tool.proofs.TaskFacts.{task_reads_nothing}
 use Rattle.tsl_tool.proofs.top.reply_to.Goals as goal
 
@@ -14,6 +17,5 @@ returns-in-Ok-clause-unread g c = λ nothing.
 
 pub returns-in-Err-Usage-clause-replies : goal.returns-in-Err-Usage-clause-replies
 returns-in-Err-Usage-clause-replies g c =
-    usage_reply (map (string_bytes {Z = Global}) c.args.words.now)
-    (effect g.S.Source.left g.S.Source.faults c.args.source.now c.args.source.now) c.at_fault.result
-    (c.in-Err-Usage.ensures.refused c.in-Err-Usage.field-0-is) refl c.at_fault.ensures
+    one_reply _ _ _ (fault_reply WrongWords) (some_bytes _) (usage (c.in-Err-Usage.ensures.refused c.in-Err-Usage.field-0-is) refl) refl
+    c.fault_reply.ensures

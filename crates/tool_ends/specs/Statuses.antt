@@ -1,7 +1,7 @@
 -- The numbers of statuses, and the sink of what goes with them.
 use Rattle.std.specs.Prelude.{ℕ, Bool, true, false}
-use Rattle.tool_replies.specs.declared.status.Status.{Status}
-use Rattle.tool_replies.specs.declared.status.Status.TheVariants.{Done, No, Usage, Reading, Large, Spent, ReadFault, WriteFault, Memory}
+use Rattle.tool_ends.specs.declared.status.Status.{Status}
+use Rattle.tool_ends.specs.declared.status.Status.TheVariants.{Done, No, Usage, Reading, Large, Spent, ReadFault, WriteFault, Memory}
 
 abbrev pub status_number : Status → ℕ
 status_number Done = 0

@@ -1,8 +1,8 @@
 -- Internal: only private functions of this crate use these words.
 use Rattle.std.specs.Prelude.{◌≡◌}
-use Rattle.tool_replies.specs.declared.status.Status.{Status}
-use Rattle.tool_replies.specs.declared.status.Status.TheVariants.{WriteFault}
-use Rattle.tool_replies.specs.declared.reply.Reply.{Reply}
+use Rattle.tool_ends.specs.declared.status.Status.{Status}
+use Rattle.tool_ends.specs.declared.status.Status.TheVariants.{WriteFault}
+use Rattle.tool_ends.specs.declared.reply.Reply.{Reply}
 use Rattle.tsl_io.specs.Effects.{Effect, IsWhole, IsCutOff}
 
 -- The status of a reply and its whole text, or a write fault and some first bytes of it.

@@ -1,7 +1,7 @@
 //! How a run ends.
 
 ghost use Rattle.std.specs.Prelude.{◌≡◌};
-ghost use Rattle.tool_replies.specs.Statuses.{status_number, is_answer};
+ghost use Rattle.tool_ends.specs.Statuses.{status_number, is_answer};
 
 /// How a run ends.
 #[derive(Clone, Copy, Debug, PartialEq, Eq)]
