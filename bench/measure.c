@@ -1,5 +1,6 @@
 /* Runs a program on a file as its standard input, as often as half a second allows and five times at least, where five
    seconds allow that, and prints the least nanoseconds of a run, the peak KiB and the status, which each run must share.
+   The environment may name another span than half a second as MEASURE_SPAN, in milliseconds; ten spans stand for the five seconds then.
    A small process starts it, so that the peak is its own. A run that takes longer than the seconds that the environment
    names as MEASURE_SECONDS is ended, and then nothing is printed. */
 #include <fcntl.h>
@@ -17,11 +18,13 @@ static long long now(void) {
 }
 
 int main(int count, char **words) {
+    const char *named = getenv("MEASURE_SPAN");
+    long long span = (named ? atoi(named) : 500) * 1000000LL;
     long long least = -1, begin = now();
     long peak = 0;
     int answer = -1;
     if (count < 3) return 2;
-    for (int runs = 0; runs == 0 || now() - begin < (runs < 5 ? 5000000000LL : 500000000LL); runs++) {
+    for (int runs = 0; runs == 0 || now() - begin < (runs < 5 ? 10 * span : span); runs++) {
         int status;
         struct rusage usage;
         long long start = now();

@@ -16,7 +16,8 @@ import plain
 from measuring import SOLVER, built
 
 LEAST = 0.005
-PASSES = 3
+PASSES = 5
+SPAN = 100  # milliseconds of runs in a pass
 LONG = 0.02
 STANDARD = ("pigeons", "parity", "random", "encodings", "large")
 
@@ -156,7 +157,7 @@ def measured(folder, text, words, seconds):
     with tempfile.NamedTemporaryFile() as file:
         file.write(text)
         file.flush()
-        environment = {**os.environ, "MEASURE_SECONDS": str(seconds)}
+        environment = {**os.environ, "MEASURE_SECONDS": str(seconds), "MEASURE_SPAN": str(SPAN)}
         done = subprocess.run([folder / "measure", file.name, *words], capture_output=True, text=True, env=environment)
     if done.returncode != 0:
         return None
