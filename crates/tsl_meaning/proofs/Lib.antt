@@ -2,6 +2,7 @@ pub mod Examples
 mod WholeExample
 pub mod LeafValues
 pub mod Agree
+pub mod OperatorPlanes
 pub mod RunTruths
 mod SharedAtoms
 pub mod RunsOf

@@ -21,7 +21,7 @@ use Rattle.tsl_terms.specs.declared.operator.ManyOperator.{ManyOperator}
 use Rattle.tsl_terms.specs.declared.operator.ManyOperator.TheVariants.{Conjunction, Disjunction}
 use Rattle.tsl_terms.specs.TermTree.{TermTree, ProbeTree, term_tree}
 use Rattle.tsl_terms.specs.SameTree.{same_tree}
-use Rattle.tsl_terms.specs.FormulaTree.{Atom, test, update, FormulaTree, FormulaTrees, constant, atom, unary, binary, many, no_formulas}
+use Rattle.tsl_terms.specs.FormulaTree.{test, update, FormulaTree, FormulaTrees, unary, binary, many, no_formulas}
 use Rattle.tsl_terms.specs.FormulaTree.{more_formulas}
 use Rattle.tsl_terms.specs.Value.{Meanings, truth, beside}
 use Rattle.tsl_meaning.specs.declared.run.LoopRun.{LoopRun}
@@ -88,23 +88,11 @@ module _ {V S : Type 0} (seen : V → S) (meanings : Meanings S) (run : LoopRun 
       listed holds truths plane (are ∙ sym (map_map holds (position_tree seen) run.positions))
 
   module _ {E : Type 0} (result : Result (Vec ℕ Global) E) where
-    pub constant_made : (holds : Bool) (whole : FormulaTree) → whole ≡ constant holds →
-        IfOk result (λ made. IsPlaneOf positions (λ _. holds) made.items) → IfOk result (λ made. HasPlane whole made.items)
-    constant_made holds whole is = IfOk-weaker result _ _ (λ made on. renamed (constant holds) whole is made.items on)
-
-    pub atom_made : (a : Atom) (whole : FormulaTree) → whole ≡ atom a →
-        IfOk result (λ made. IsPlaneOf positions (λ i. lasso.holds i a) made.items) → IfOk result (λ made. HasPlane whole made.items)
-    atom_made a whole is = IfOk-weaker result _ _ (λ made on. renamed (atom a) whole is made.items on)
-
     pub unary_made : (op : UnaryOperator) (f whole : FormulaTree) (plane : List ℕ) → whole ≡ unary op f → HasPlane f plane →
         IfOk result (λ made. (a : ℕ → Bool) → IsPlaneOf positions a plane → IsPlaneOf positions (unary_at shape op a) made.items) →
         IfOk result (λ made. HasPlane whole made.items)
     unary_made op f whole plane is on =
         IfOk-weaker result _ _ (λ made makes. renamed (unary op f) whole is made.items (makes (meets lasso f) on))
-
-  pub one_made : (op : UnaryOperator) (f whole : FormulaTree) (plane new : List ℕ) → whole ≡ unary op f → HasPlane f plane →
-      ((a : ℕ → Bool) → IsPlaneOf positions a plane → IsPlaneOf positions (unary_at shape op a) new) → HasPlane whole new
-  one_made op f whole plane new is on makes = renamed (unary op f) whole is new (makes (meets lasso f) on)
 
   pub binary_made : (op : BinaryOperator) (f g whole : FormulaTree) (left right new : List ℕ) → whole ≡ binary op f g →
       HasPlane f left → HasPlane g right →

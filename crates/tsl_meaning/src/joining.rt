@@ -1,14 +1,18 @@
-//! What constants, conjunctions and disjunctions make of planes of truths along a run.
+//! What constants and operators make of planes of truths along a run.
 
 ghost use Rattle.std.specs.Prelude.{◌≡◌, ℕ, ◌+◌, Bool, length as count_of, IfOk};
-ghost use Rattle.position_planes.specs.Positions.{IsPlaneOf};
+ghost use Rattle.position_planes.specs.Positions.{IsPlaneOf, words_of, loop_of};
+ghost use Rattle.tsl_meaning.specs.Lasso.{unary_at, binary_at};
 ghost use Rattle.tsl_meaning.specs.internal.Members.{joined, of_none};
 
 use crate::run::LoopRun;
-use position_planes::{both, either, everywhere, nowhere};
+use position_planes::{
+    both, either, everywhere, finally, globally, implied, negated, next, nowhere, release, same,
+    until, weak_until,
+};
 use sequence::NoMemory;
 use std::alloc::Global;
-use tsl_terms::ManyOperator;
+use tsl_terms::{BinaryOperator, ManyOperator, UnaryOperator};
 
 /// The same truth at each position.
 pub(crate) fn constant_plane<V>(
@@ -23,6 +27,51 @@ pub(crate) fn constant_plane<V>(
         everywhere(alloc, positions)
     } else {
         nowhere(alloc, positions)
+    }
+}
+
+/// What an operator makes of the truths of the formula after it.
+pub(crate) fn unary_plane<V>(
+    alloc: Global,
+    run: &LoopRun<V>,
+    operator: UnaryOperator,
+    plane: Vec<u64>,
+) -> Result<Vec<u64>, NoMemory>
+    requires { count_of plane.items ≡ words_of (run.now.start + run.now.length) }
+    ensures { IfOk result (λ made. (a : ℕ → Bool) → IsPlaneOf (run.now.start + run.now.length) a plane.items →
+        IsPlaneOf (run.now.start + run.now.length) (unary_at (loop_of run.now.start run.now.length) operator a) made.items) }
+{
+    let start = run.start as usize;
+    let round = run.length as usize;
+    match operator {
+        UnaryOperator::Negation => Ok(negated(plane)),
+        UnaryOperator::Next => Ok(next(plane, start, round)),
+        UnaryOperator::Finally => finally(alloc, plane, start, round),
+        UnaryOperator::Globally => globally(alloc, plane, start, round),
+    }
+}
+
+/// What an operator makes of the truths of the formulas to its left and its right.
+pub(crate) fn binary_plane<V>(
+    run: &LoopRun<V>,
+    operator: BinaryOperator,
+    left: Vec<u64>,
+    right: Vec<u64>,
+) -> Vec<u64>
+    requires left { count_of left.items ≡ words_of (run.now.start + run.now.length) }
+    requires right { count_of right.items ≡ words_of (run.now.start + run.now.length) }
+    ensures { (a b : ℕ → Bool) → IsPlaneOf (run.now.start + run.now.length) a left.items →
+        IsPlaneOf (run.now.start + run.now.length) b right.items →
+        IsPlaneOf (run.now.start + run.now.length) (binary_at (loop_of run.now.start run.now.length) operator a b) result.items }
+{
+    let start = run.start as usize;
+    let round = run.length as usize;
+    match operator {
+        BinaryOperator::Implication => implied(left, &right),
+        BinaryOperator::Equivalence => same(left, &right),
+        BinaryOperator::Until => until(left, &right, start, round),
+        BinaryOperator::WeakUntil => weak_until(left, right, start, round),
+        BinaryOperator::Release => release(left, right, start, round),
     }
 }
 

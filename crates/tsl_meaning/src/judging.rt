@@ -12,16 +12,14 @@ ghost use Rattle.tsl_meaning.specs.internal.SharedAtoms.{HavePlanes};
 ghost use Rattle.tsl_meaning.specs.internal.Columns.{HaveValues};
 
 use crate::columns::{RunValues, values_of};
-use crate::joining::{constant_plane, joined_plane, of_none};
+use crate::joining::{binary_plane, constant_plane, joined_plane, of_none, unary_plane};
 use crate::run::LoopRun;
 use crate::shared_atoms::{SharedAtoms, plane_of_atom, shared_atoms};
 use interp_core::Judge;
-use position_planes::{
-    finally, globally, holds_at, implied, negated, next, release, same, until, weak_until,
-};
+use position_planes::holds_at;
 use sequence::NoMemory;
 use std::alloc::Global;
-use tsl_terms::{AtomRef, Formula, FormulaList, ManyOperator};
+use tsl_terms::{Formula, FormulaList, FormulaParts, ManyOperator};
 
 /// Whether a formula holds at the first position of a run. Each probe has a truth at each position. An
 /// update holds where its signal is assigned that very term, and not merely one of equal value. It
@@ -61,91 +59,20 @@ fn formula_plane<J: Judge>(
     ensures { IfOk result (λ plane. IsPlaneOf (run.now.start + run.now.length)
         (meets (run_lasso (J.meanings judge.now) (run_tree J.seen run.now)) (formula_tree formula.now)) plane.items) }
 {
-    let start = run.start as usize;
-    let round = run.length as usize;
-    match formula {
-        Formula::True => constant_plane(alloc, run, true),
-        Formula::False => constant_plane(alloc, run, false),
-        Formula::Test(probe) => plane_of_atom(
-            alloc,
-            judge,
-            run,
-            values,
-            shared,
-            AtomRef::Test(probe),
-        ),
-        Formula::Update(signal, term) => {
-            plane_of_atom(
-                alloc,
-                judge,
-                run,
-                values,
-                shared,
-                AtomRef::Update(*signal, term),
-            )
-        }
-        Formula::Not(part) => {
+    match formula.parts() {
+        FormulaParts::Constant(holds) => constant_plane(alloc, run, holds),
+        FormulaParts::Atom(atom) => plane_of_atom(alloc, judge, run, values, shared, atom),
+        FormulaParts::Unary(operator, part) => {
             let plane = formula_plane(alloc, judge, run, values, shared, part)?;
-            Ok(negated(plane))
+            unary_plane(alloc, run, operator, plane)
         }
-        Formula::All(members) => {
-            member_plane(
-                alloc,
-                judge,
-                run,
-                values,
-                shared,
-                ManyOperator::Conjunction,
-                members,
-            )
-        }
-        Formula::Any(members) => {
-            member_plane(
-                alloc,
-                judge,
-                run,
-                values,
-                shared,
-                ManyOperator::Disjunction,
-                members,
-            )
-        }
-        Formula::Implies(left, right) => {
+        FormulaParts::Binary(operator, left, right) => {
             let left = formula_plane(alloc, judge, run, values, shared, left)?;
             let right = formula_plane(alloc, judge, run, values, shared, right)?;
-            Ok(implied(left, &right))
+            Ok(binary_plane(run, operator, left, right))
         }
-        Formula::Iff(left, right) => {
-            let left = formula_plane(alloc, judge, run, values, shared, left)?;
-            let right = formula_plane(alloc, judge, run, values, shared, right)?;
-            Ok(same(left, &right))
-        }
-        Formula::Next(part) => {
-            let plane = formula_plane(alloc, judge, run, values, shared, part)?;
-            Ok(next(plane, start, round))
-        }
-        Formula::Finally(part) => {
-            let plane = formula_plane(alloc, judge, run, values, shared, part)?;
-            finally(alloc, plane, start, round)
-        }
-        Formula::Globally(part) => {
-            let plane = formula_plane(alloc, judge, run, values, shared, part)?;
-            globally(alloc, plane, start, round)
-        }
-        Formula::Until(left, right) => {
-            let left = formula_plane(alloc, judge, run, values, shared, left)?;
-            let right = formula_plane(alloc, judge, run, values, shared, right)?;
-            Ok(until(left, &right, start, round))
-        }
-        Formula::Weak(left, right) => {
-            let left = formula_plane(alloc, judge, run, values, shared, left)?;
-            let right = formula_plane(alloc, judge, run, values, shared, right)?;
-            Ok(weak_until(left, right, start, round))
-        }
-        Formula::Release(left, right) => {
-            let left = formula_plane(alloc, judge, run, values, shared, left)?;
-            let right = formula_plane(alloc, judge, run, values, shared, right)?;
-            Ok(release(left, right, start, round))
+        FormulaParts::Many(operator, members) => {
+            member_plane(alloc, judge, run, values, shared, operator, members)
         }
     }
 }

@@ -4,6 +4,7 @@ pub mod Clashes
 pub mod Congruence
 pub mod Distinct
 pub mod Equality
+pub mod FormulaParts
 pub mod FormulaTree
 pub mod FreeTree
 pub mod Laws

@@ -49,6 +49,7 @@ mod laws;
 mod marks;
 mod names;
 mod operator;
+mod parts;
 mod same;
 mod signal_lists;
 mod spec;
@@ -72,6 +73,7 @@ pub use laws::{
 };
 pub use names::{NameKind, Names};
 pub use operator::{BinaryOperator, ManyOperator, UnaryOperator};
+pub use parts::FormulaParts;
 pub use same::{same_probe, same_term};
 pub use signal_lists::{SignalLists, signals};
 pub use spec::Spec;
