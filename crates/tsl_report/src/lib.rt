@@ -25,6 +25,7 @@ ghost use Rattle.std.specs.Prelude.{◌≡◌, ◌++◌, IsTrue, OnOk, IfOk, cod
 ghost use Rattle.tsl_terms.specs.FormulaTree.{formula_tree, formula_trees};
 ghost use Rattle.tsl_terms.specs.Atoms.{members_are_made_of};
 ghost use Rattle.tsl_report.specs.FormulaText.{formula_text, members_text, others_text, atom_is_held, can_be_written};
+ghost use Rattle.tsl_report.specs.FormulaText.{constant_text, unary_text, binary_text, many_text};
 
 mod environment;
 mod fault;
@@ -42,7 +43,9 @@ use sequence::NoMemory;
 use std::alloc::Global;
 use term_text::{put_probe, put_update};
 pub use trace::trace_text;
-use tsl_terms::{Formula, FormulaList, Names};
+use tsl_terms::{
+    AtomRef, BinaryOperator, Formula, FormulaList, FormulaParts, ManyOperator, Names, UnaryOperator,
+};
 
 /// The text of a formula.
 pub fn formula_text(alloc: Global, names: &Names, formula: &Formula) -> Result<Vec<u8>, NoMemory>
@@ -62,42 +65,61 @@ fn put_formula(out: &mut Vec<u8>, names: &Names, formula: &Formula) -> Result<()
     ensures { OnOk result
         (out.new.items ≡ out.old.items ++ formula_text names.now (formula_tree formula.now)) }
 {
-    match formula {
-        Formula::True => out.extend_from_slice(b"true"),
-        Formula::False => out.extend_from_slice(b"false"),
-        Formula::Test(probe) => put_probe(out, names, probe),
-        Formula::Update(signal, term) => put_update(out, names, *signal, term),
-        Formula::Not(a) => put_under(out, names, b"!", a),
-        Formula::All(members) => put_members(out, names, b" && ", members),
-        Formula::Any(members) => put_members(out, names, b" || ", members),
-        Formula::Implies(a, b) => {
-            put_under(out, names, b"(", a)?;
-            put_under(out, names, b" -> ", b)?;
+    match formula.parts() {
+        FormulaParts::Constant(holds) => out.extend_from_slice(constant_text(holds)),
+        FormulaParts::Atom(AtomRef::Test(probe)) => put_probe(out, names, probe),
+        FormulaParts::Atom(AtomRef::Update(signal, term)) => put_update(out, names, signal, term),
+        FormulaParts::Unary(operator, part) => put_under(out, names, unary_text(operator), part),
+        FormulaParts::Binary(operator, left, right) => {
+            put_under(out, names, b"(", left)?;
+            put_under(out, names, binary_text(operator), right)?;
             out.extend_from_slice(b")")
         }
-        Formula::Iff(a, b) => {
-            put_under(out, names, b"(", a)?;
-            put_under(out, names, b" <-> ", b)?;
-            out.extend_from_slice(b")")
+        FormulaParts::Many(operator, members) => {
+            put_members(out, names, many_text(operator), members)
         }
-        Formula::Next(a) => put_under(out, names, b"X ", a),
-        Formula::Finally(a) => put_under(out, names, b"F ", a),
-        Formula::Globally(a) => put_under(out, names, b"G ", a),
-        Formula::Until(a, b) => {
-            put_under(out, names, b"(", a)?;
-            put_under(out, names, b" U ", b)?;
-            out.extend_from_slice(b")")
-        }
-        Formula::Weak(a, b) => {
-            put_under(out, names, b"(", a)?;
-            put_under(out, names, b" W ", b)?;
-            out.extend_from_slice(b")")
-        }
-        Formula::Release(a, b) => {
-            put_under(out, names, b"(", a)?;
-            put_under(out, names, b" R ", b)?;
-            out.extend_from_slice(b")")
-        }
+    }
+}
+
+/// The word for a formula that holds everywhere or nowhere.
+fn constant_text(holds: bool) -> &'static [u8]
+    ensures { result.now ≡ constant_text holds }
+{
+    if holds { b"true" } else { b"false" }
+}
+
+/// What stands before a formula.
+fn unary_text(operator: UnaryOperator) -> &'static [u8]
+    ensures { result.now ≡ unary_text operator }
+{
+    match operator {
+        UnaryOperator::Negation => b"!",
+        UnaryOperator::Next => b"X ",
+        UnaryOperator::Finally => b"F ",
+        UnaryOperator::Globally => b"G ",
+    }
+}
+
+/// What stands between two formulas.
+fn binary_text(operator: BinaryOperator) -> &'static [u8]
+    ensures { result.now ≡ binary_text operator }
+{
+    match operator {
+        BinaryOperator::Implication => b" -> ",
+        BinaryOperator::Equivalence => b" <-> ",
+        BinaryOperator::Until => b" U ",
+        BinaryOperator::WeakUntil => b" W ",
+        BinaryOperator::Release => b" R ",
+    }
+}
+
+/// What stands between each two of many formulas.
+fn many_text(operator: ManyOperator) -> &'static [u8]
+    ensures { result.now ≡ many_text operator }
+{
+    match operator {
+        ManyOperator::Conjunction => b" && ",
+        ManyOperator::Disjunction => b" || ",
     }
 }
 
