@@ -15,6 +15,7 @@
 //!   a law.
 //! - `first_uses` gives the names of uses in their order, and `first_clash` the first use that is not like
 //!   the first use of its name.
+//! - `Formula::parts` gives a formula by its outermost operator, in the five cases of its tree.
 //! - `atoms` gives what a formula tests and updates, from the left, and `atoms_of_spec` that of a whole
 //!   formula. What a formula reads, updates and is made of are folds of this list.
 //! - `whole` gives the formula that a specification stands for, `signals` its inputs, cells and outputs,
