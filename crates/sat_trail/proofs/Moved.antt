@@ -27,26 +27,17 @@ pub spare_over : (t : TrailState) → IsSound t → (number : ℕ) (pair : Pair)
 spare_over t sound number pair h = over_literal t sound number h.clause pair.spare h.named h.is.spare
 
 -- the literals of a clause of three, where the spare one is not of the pair
-pub no_more : (clause : List Lit) (pair : Pair) → length clause ≡ 3 → same pair.spare pair.first ≡ false → same pair.spare pair.second ≡ false →
-    IsPair clause pair → HasNoMore clause pair
-no_more (x ∷ y ∷ z ∷ []) pair three a b is l member =
+pub no_more : (clause : List Lit) (p : Pair) → length clause ≡ 3 → same p.spare p.first ≡ false → same p.spare p.second ≡ false →
+    IsPair clause p → HasNoMore clause p
+no_more (x ∷ y ∷ z ∷ []) p three a b is l member =
     let of : (m : Lit) → has (x ∷ y ∷ z ∷ []) m ≡ true → (x ≡ m) ⊎ ((y ≡ m) ⊎ (z ≡ m)) =
     λ m. AllByRecursion-has (λ n. (x ≡ n) ⊎ ((y ≡ n) ⊎ (z ≡ n))) (x ∷ y ∷ z ∷ []) m (inl refl, (inr (inl refl), (inr (inr refl), tt))) in
-    let apart : (m : Lit) → same pair.spare m ≡ false → pair.spare ≡ m → ⊥ = λ m h e. false≢true (sym h ∙ same_from pair.spare m e) in
-    grind (
-      arith,
-      of pair.first is.first,
-      of pair.second is.second,
-      of pair.spare is.spare,
-      of l member,
-      is.apart,
-      apart pair.first a,
-      apart pair.second b,
-    )
-no_more [] pair three a b is l member = absurd (omega (arith, three))
-no_more (x ∷ []) pair three a b is l member = absurd (omega (arith, three))
-no_more (x ∷ y ∷ []) pair three a b is l member = absurd (omega (arith, three))
-no_more (x ∷ y ∷ z ∷ w ∷ rest) pair three a b is l member = absurd (omega (arith, three))
+    let apart : (m : Lit) → same p.spare m ≡ false → p.spare ≡ m → ⊥ = λ m h e. false≢true (sym h ∙ same_from p.spare m e) in
+    grind (arith, of p.first is.first, of p.second is.second, of p.spare is.spare, of l member, is.apart, apart p.first a, apart p.second b)
+no_more [] p three a b is l member = absurd (omega (arith, three))
+no_more (x ∷ []) p three a b is l member = absurd (omega (arith, three))
+no_more (x ∷ y ∷ []) p three a b is l member = absurd (omega (arith, three))
+no_more (x ∷ y ∷ z ∷ w ∷ rest) p three a b is l member = absurd (omega (arith, three))
 
 module _ {t : TrailState} {number : ℕ} {pair : Pair} {other spare first : Lit} (h : IsPairIn t number pair)
     (of : IsOf pair other) (of_spare : IsOf pair spare) where

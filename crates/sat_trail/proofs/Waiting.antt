@@ -261,8 +261,7 @@ module _ {t : TrailState} {w : Watches} (v : Watches) {number : ℕ} {first seco
 
 pub both_free : (trues : List Lit) (pair : Pair) → has trues (negation pair.first) ≡ false → has trues (negation pair.second) ≡ false →
     (l : Lit) → IsOf pair l → has trues (negation l) ≡ false
-both_free trues pair first second l (inl e) = ap (λ (z : Lit). has trues (negation z)) (sym e) ∙ first
-both_free trues pair first second l (inr e) = ap (λ (z : Lit). has trues (negation z)) (sym e) ∙ second
+both_free trues pair first second l of = grind (arith, first, second, of)
 
 -- the next clause is taken in, and watches two literals that are not false
 pub watched_open : {t : TrailState} {w v : Watches} {number : ℕ} {first second : Lit} (spare : Lit) {literals : List Lit} → IsSound t →
@@ -320,18 +319,8 @@ module _ {t : TrailState} {w b : Watches} (v : Watches) {number : ℕ} (first se
 
 pub watched_by : {w : Watches} {number : ℕ} {pair : Pair} {first second : Lit} → IsPairOf w.pairs.items number pair → IsOf pair first →
     IsOf pair second → (second ≡ first → ⊥) → IsWatchedBy w number first second
-watched_by {w} {number} {pair} {first} {second} at (inl p) (inl q) apart = absurd (apart (sym q ∙ p))
-watched_by {w} {number} {pair} {first} {second} at (inr p) (inr q) apart = absurd (apart (sym q ∙ p))
-watched_by {w} {number} {pair} {first} {second} at (inl p) (inr q) apart = record {
-  pair = pair;
-  at = at;
-  only = λ l of. elim of [ inl e ↦ inl (sym p ∙ e) | inr e ↦ inr (sym q ∙ e) ];
-}
-watched_by {w} {number} {pair} {first} {second} at (inr p) (inl q) apart = record {
-  pair = pair;
-  at = at;
-  only = λ l of. elim of [ inl e ↦ inr (sym q ∙ e) | inr e ↦ inl (sym p ∙ e) ];
-}
+watched_by {w} {number} {pair} {first} {second} at p q apart =
+    record { pair = pair; at = at; only = λ l of. grind (arith, p, q, of, apart) }
 
 pub read_pair : (pairs : List (Option Pair)) {number : ℕ} {x : Option Pair} {pair : Pair} → number < length pairs →
     x ≡ get_or pairs number x → x ≡ Some pair → IsPairOf pairs number pair
