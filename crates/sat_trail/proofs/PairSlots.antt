@@ -1,7 +1,7 @@
 -- The pair of a clause, or none, by its two literals.
-use Rattle.std.proofs.Common.{◌≡◌, Some, None, cond, sym, ap, ◌∙◌}
+use Rattle.std.proofs.Common.{◌≡◌, Some, None, cond}
 use Rattle.std.proofs.lemmas.Bool.{cond-true, cond-false, false_from_ne_true}
-use Rattle.clause_core.specs.Literals.{Lit, same}
+use Rattle.clause_core.specs.Literals.{same}
 use Rattle.clause_core.proofs.Sets.{same_is, same_from}
 use Rattle.sat_trail.specs.declared.watches.Pair.{Pair}
 

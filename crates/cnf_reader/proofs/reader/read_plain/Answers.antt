@@ -1,4 +1,4 @@
-use Rattle.std.proofs.Common.{◌++◌, ap, ◌∙◌, arith, rules}
+use Rattle.std.proofs.Common.{◌++◌, ap, ◌∙◌, arith}
 use Rattle.cnf_reader.specs.internal.Reading.{answer_left}
 use Rattle.cnf_reader.specs.internal.Places.{tells}
 use Rattle.cnf_reader.proofs.PlaceLemmas.{next_number_read}

@@ -1,5 +1,4 @@
 use Rattle.std.proofs.Common.{◌≡◌, ◌≤◌, ℕ, List, length}
-use Rattle.cnf_reader.specs.declared.stages.Stage.TheVariants.{Numbers}
 use Rattle.cnf_reader.specs.internal.RestOfText.{HasFewLines}
 use Rattle.cnf_reader.specs.internal.Places.{tells, answer_from}
 use Rattle.cnf_reader.proofs.reader.read_plain.Given as goal
