@@ -104,8 +104,8 @@ impl Literal {
         ensures { result ≡ code_of self }
     {
         // twice the number, or the opposite less 1 of that: a compiler takes no branch for it
-        let double = 2 * i64::from(self.number);
-        let folded = if double < 0 { -1 - double } else { double };
+        let double = self.number.cast_unsigned().wrapping_mul(2);
+        let folded = if self.number < 0 { !double } else { double };
         folded as usize - 1
     }
 

@@ -106,6 +106,9 @@ impl Tournament {
         requires within { variable < self.old.leaves }
         ensures { HasWeight self.old variable activity self.new }
     {
+        if self.weight(variable) == activity {
+            return;
+        }
         let mut node = self.leaves + variable as usize;
         self.nodes[node] = Rank { activity, variable };
         while node > 1 {

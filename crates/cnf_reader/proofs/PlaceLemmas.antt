@@ -16,6 +16,7 @@ use Rattle.cnf_reader.specs.declared.stages.Heading.TheVariants.{Kind, Form, Var
 use Rattle.cnf_reader.specs.declared.stages.Stage.{Stage}
 use Rattle.cnf_reader.specs.declared.stages.Stage.TheVariants.{Comments, Header, Numbers, Wrong}
 use Rattle.cnf_reader.specs.declared.places.Rest.{Rest}
+use Rattle.cnf_reader.specs.declared.places.Word.{Word}
 use Rattle.clause_core.specs.declared.formulas.Cnf.{Cnf}
 use Rattle.cnf_reader.specs.declared.dimacs.CnfError.{CnfError}
 use Rattle.cnf_reader.specs.CnfText.{CnfAnswer, is_cnf, form_at}
@@ -24,7 +25,7 @@ use Rattle.cnf_reader.specs.internal.Told.{Tells}
 use Rattle.cnf_reader.specs.internal.Stages.{at_comment, at_data_line, after_long_word}
 use Rattle.cnf_reader.specs.internal.RestOfText.{line_rest, later_lines, begins_with_blank, EndsWord}
 use Rattle.cnf_reader.specs.internal.Reading.{lines_answer, numbers_answer, words_answer, answer_at, answer_left, end_answer}
-use Rattle.cnf_reader.specs.internal.Places.{GoesOn, IsKept, in_word, at_feed, in_comment}
+use Rattle.cnf_reader.specs.internal.Places.{answer_from, GoesOn, HasNext, IsKept, in_word, at_feed, in_comment}
 use Rattle.cnf_reader.proofs.StageLemmas.{header_long, number_long}
 use Rattle.cnf_reader.proofs.RestLemmas.{later_after_word, first_word, ends_where_stopped, first_line, line_more, later_in_line, later_of_cut}
 
@@ -134,7 +135,7 @@ pub all_pass : (test : ℕ → Bool) (bytes : List ℕ) (n : ℕ) → n ≡ pref
 all_pass test bytes n e h = ap (list_all test) (sym (take_all (prefix_len test bytes) bytes (omega (arith, e, h)))) ∙ list_all-prefix test bytes
 
 -- a word has a byte where no blank stands first
-some_byte : (text : List ℕ) → 0 < length text → begins_with_blank text ≡ false → 0 < prefix_len (λ byte. not (is_blank byte)) text
+pub some_byte : (text : List ℕ) → 0 < length text → begins_with_blank text ≡ false → 0 < prefix_len (λ byte. not (is_blank byte)) text
 some_byte [] some h = absurd (omega arith)
 some_byte (b ∷ bs) some h =
     let one : cond (not (is_blank b)) (1 + prefix_len (λ byte. not (is_blank byte)) bs) 0
@@ -161,11 +162,10 @@ pub record WordStands (text : List ℕ) (len : ℕ) : Type 0 where
   pub whole : is_word (take len text) ≡ true
   pub ends : begins_with_blank (drop len text) ≡ true
 
-pub word_stands : (text : List ℕ) (len : ℕ) → len ≡ prefix_len (λ byte. not (is_blank byte)) text → len < length text →
-    begins_with_blank text ≡ false → WordStands text len
-word_stands text len e within begins =
-    let test : ℕ → Bool = λ byte. not (is_blank byte) in
-    let byte : 0 < len = omega (arith, e, some_byte text (omega arith) begins) in record {
+pub word_stands : (text : List ℕ) (len : ℕ) → len ≡ prefix_len (λ byte. not (is_blank byte)) text → len < length text → 0 < len →
+    WordStands text len
+word_stands text len e within byte =
+    let test : ℕ → Bool = λ byte. not (is_blank byte) in record {
       some = has_some (take len text) (omega (arith, length-take len text));
       whole = ap (λ k. is_word (take k text)) e ∙ list_all-prefix test text;
       ends = stops_at_blank (drop len text) (omega (arith, length-drop len text))
@@ -217,12 +217,12 @@ long_passed stage told number word more whole long =
     (sym (ap later_lines (sym split) ∙ later_after_word front rest in_word)))))
 
 -- before a blank ends a word
-pub ends_before : (text more : List ℕ) → begins_with_blank text ≡ true → EndsWord (text ++ more)
+ends_before : (text more : List ℕ) → begins_with_blank text ≡ true → EndsWord (text ++ more)
 ends_before [] more h = absurd (cc)
 ends_before (b ∷ bs) more h = h
 
 -- a word that was read
-pub word_read : (stage next : Stage) (told new : Tells) (number line : ℕ) (word text : List ℕ) → line ≡ number → has_bytes word ≡ true →
+word_read : (stage next : Stage) (told new : Tells) (number line : ℕ) (word text : List ℕ) → line ≡ number → has_bytes word ≡ true →
     is_word word ≡ true → EndsWord text →
     ((words : List (List ℕ)) (later : List ℕ) → answer_at stage told line (word ∷ words) later ≡ answer_at next new line words later) →
     answer_left stage told number (word ++ text) ≡ answer_left next new number text
@@ -232,6 +232,25 @@ word_read stage next told new number line word text here some whole end read =
     ∙ (ap (λ n. answer_at stage told n (word ∷ words (line_rest text)) (later_lines text)) (sym here)
     ∙ (read (words (line_rest text)) (later_lines text)
     ∙ ap (λ n. answer_at next new n (words (line_rest text)) (later_lines text)) here))
+
+-- the next word, which was read
+pub next_read : {from : Rest} {word : Word} {later : Rest} (next : Stage) (told new : Tells) → HasNext from word later →
+    ((words : List (List ℕ)) (rest : List ℕ) →
+    answer_at later.stage told word.line (word.bytes.now ∷ words) rest ≡ answer_at next new word.line words rest) →
+    (more : List ℕ) → answer_from from told more ≡ answer_left next new later.number (later.text.now ++ more)
+next_read {from} {word} {later} next told new has read more =
+    has.answer told more
+    ∙ word_read later.stage next told new later.number word.line word.bytes.now (later.text.now ++ more) has.line has.some has.whole
+    (ends_before later.text.now more has.ends) read
+
+-- the same behind the header
+pub next_number_read : {from : Rest} {word : Word} {later : Rest} (next : Stage) (told new : Tells) → HasNext from word later →
+    later.stage ≡ Numbers → ((words : List (List ℕ)) (rest : List ℕ) →
+    answer_at Numbers told word.line (word.bytes.now ∷ words) rest ≡ answer_at next new word.line words rest) →
+    (more : List ℕ) → answer_from from told more ≡ answer_left next new later.number (later.text.now ++ more)
+next_number_read {from} {word} {later} next told new has is read =
+    next_read next told new has (λ words rest.
+    ap (λ stage. answer_at stage told word.line (word.bytes.now ∷ words) rest) is ∙ read words rest)
 
 -- ---- the end of a text
 

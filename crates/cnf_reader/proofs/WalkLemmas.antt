@@ -27,12 +27,12 @@ digit_in_word byte h =
     by_tests false false false true p q r s = absurd (omega (arith, above, s refl))
     by_tests false false false false p q r s = refl
 
--- digits up to a blank or the end are the whole word
+-- digits up to a blank are the whole word
 pub digits_are_word : (text : List ℕ) (len : ℕ) → len ≤ length text → list_all is_ascii_digit (take len text) ≡ true →
-    (len < length text → is_blank (get_or text len 0) ≡ true) →
+    is_blank (get_or text len 0) ≡ true →
     len ≡ prefix_len (λ byte. not (is_blank byte)) text
 digits_are_word text len within digits ends =
-    sym (prefix_len_is (λ byte. not (is_blank byte)) text len 0 within each (λ h. ap not (ends h)))
+    sym (prefix_len_is (λ byte. not (is_blank byte)) text len 0 within each (λ h. ap not ends))
   where
     each : (k : ℕ) → k < len → not (is_blank (get_or text k 0)) ≡ true
     each k h =

@@ -1,12 +1,12 @@
 //! Places in a text, and how far the words go from there.
 
-ghost use Rattle.std.specs.Prelude.{◌≡◌, ◌<◌, ◌≤◌, ◌∷◌, true, false, IfOk, IfErr, length};
+ghost use Rattle.std.specs.Prelude.{◌≡◌, ◌<◌, ◌≤◌, ◌∷◌, true, false, IfOk, IfErr, IfSome, length};
 ghost use Rattle.tsl_text.specs.Numbers.{signed_number_in};
 ghost use Rattle.cnf_reader.specs.internal.RestOfText.{begins_with_blank, HasFewLines};
 ghost use Rattle.cnf_reader.specs.internal.Places.{GoesOn, HasNext, IsInWord, IsKept};
 
 use crate::stages::Stage;
-use crate::walk::{front_number, is_blank, line_len};
+use crate::walk::{front_number, is_blank, line_len, plain_number};
 use refutation_check::is_comment;
 use tsl_text::MOST_DIGITS;
 
@@ -49,6 +49,35 @@ pub(crate) fn next_word(rest: Rest<'_>) -> Result<(Word<'_>, Rest<'_>), Rest<'_>
     };
     let text = &start.text[len..];
     Ok((word, Rest { text, ..start }))
+}
+
+/// The next word, and the place after it, where it is one of the numbers behind the header and stands behind one blank.
+/// None where it does not, or where that is not seen at once.
+#[inline(always)]
+pub(crate) fn plain_word(rest: Rest<'_>) -> Option<(Word<'_>, Rest<'_>)>
+    requires { HasFewLines rest.number rest.text.now }
+    ensures next { IfSome result (λ found. HasNext rest.entry found.0 found.1) }
+    ensures number { IfSome result (λ found. found.0.number ≡ signed_number_in found.0.bytes.now) }
+    ensures shorter { IfSome result (λ found. length found.1.text.now < length rest.entry.text.now) }
+    ensures stage { IfSome result (λ found. found.1.stage ≡ Stage.Numbers) }
+{
+    if !begins_with_blank(rest.text) {
+        return None;
+    }
+    let Ok(start) = after_blank(rest) else {
+        return None;
+    };
+    let Stage::Numbers = start.stage else {
+        return None;
+    };
+    let (number, len) = plain_number(start.text)?;
+    let word = Word {
+        line: start.number,
+        bytes: &start.text[..len],
+        number: Some(number),
+    };
+    let text = &start.text[len..];
+    Some((word, Rest { text, ..start }))
 }
 
 /// The place where the next word begins. An `Err` has the place where none begins.

@@ -1,6 +1,6 @@
 //! The reader of a text that comes in pieces.
 
-ghost use Rattle.std.specs.Prelude.{◌≡◌, ◌+◌, ◌<◌, ◌^◌, ℕ, true, [], ◌++◌, List, IfOk, OnOk, length};
+ghost use Rattle.std.specs.Prelude.{◌≡◌, ◌+◌, ◌<◌, ◌≤◌, ◌^◌, ℕ, true, [], ◌++◌, List, IfOk, OnOk, length};
 ghost use Rattle.cnf_reader.specs.CnfText.{cnf_answer};
 ghost use Rattle.cnf_reader.specs.Pieces.{HasRead, IsGiven};
 ghost use Rattle.cnf_reader.specs.internal.RestOfText.{HasFewLines};
@@ -8,8 +8,8 @@ ghost use Rattle.cnf_reader.specs.internal.Reading.{answer_left, numbers_answer,
 ghost use Rattle.cnf_reader.specs.internal.Places.{tells, answer_from, IsKept};
 
 use crate::CnfError;
-use crate::places::{Rest, Word, begins_with_blank, next_word};
-use crate::stages::{Heading, Stage, add_word};
+use crate::places::{Rest, Word, begins_with_blank, next_word, plain_word};
+use crate::stages::{Heading, Stage, add_number, add_word};
 use crate::told::{Counts, Told};
 use clause_core::Cnf;
 use refutation_check::{MOST_CLAUSES, MOST_VARIABLES};
@@ -141,7 +141,8 @@ fn read_words<'a>(alloc: Global, told: &mut Told, rest: Rest<'a>) -> Result<Rest
 {
     let mut rest = rest;
     loop {
-        match next_word(rest) {
+        let behind = read_plain(alloc, told, rest)?;
+        match next_word(behind) {
             Err(left) => return Ok(left),
             Ok((word, later)) => {
                 let stage = add_word(told, alloc, later.stage, word)?;
@@ -149,6 +150,36 @@ fn read_words<'a>(alloc: Global, told: &mut Told, rest: Rest<'a>) -> Result<Rest
             }
         }
     }
+}
+
+/// Reads the numbers from this place on that stand behind one blank each, and answers the place after them. That is a
+/// quick way through most of a text, which may stop anywhere.
+fn read_plain<'a>(alloc: Global, told: &mut Told, rest: Rest<'a>) -> Result<Rest<'a>, NoMemory>
+    requires { HasFewLines rest.number rest.text.now }
+    ensures answer { IfOk result (λ left. (more : List ℕ) →
+        answer_from rest.entry (tells told.old) more ≡ answer_from left (tells told.new) more) }
+    ensures few { IfOk result (λ left. HasFewLines left.number left.text.now) }
+    ensures within { IfOk result (λ left. length left.text.now ≤ length rest.entry.text.now) }
+{
+    let Stage::Numbers = rest.stage else {
+        return Ok(rest);
+    };
+    let mut place = Rest {
+        stage: Stage::Numbers,
+        ..rest
+    };
+    while let Some((word, later)) = plain_word(place) {
+        match add_number(told, alloc, word)? {
+            Stage::Numbers => {
+                place = Rest {
+                    stage: Stage::Numbers,
+                    ..later
+                };
+            }
+            stage => return Ok(Rest { stage, ..later }),
+        }
+    }
+    Ok(place)
 }
 
 /// What comes next at the end of the text, after the last word, and the number of the last line.

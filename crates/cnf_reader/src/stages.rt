@@ -150,7 +150,7 @@ fn if_right(is_right: bool, next: Heading, line: u32) -> Stage
 
 /// What comes next after the word behind the header, and what its number tells.
 #[inline(always)]
-fn add_number(told: &mut Told, alloc: Global, word: Word<'_>) -> Result<Stage, NoMemory>
+pub(crate) fn add_number(told: &mut Told, alloc: Global, word: Word<'_>) -> Result<Stage, NoMemory>
     requires { word.number ≡ signed_number_in word.bytes.now }
     ensures { IfOk result (λ next. (words : List (List ℕ)) (later : List ℕ) →
         answer_at Stage.Numbers (tells told.old) word.entry.line (word.entry.bytes.now ∷ words) later

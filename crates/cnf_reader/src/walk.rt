@@ -1,6 +1,6 @@
 //! What stands at the front of a text, found in one walk over its bytes.
 
-ghost use Rattle.std.specs.Prelude.{◌≡◌, ◌+◌, ◌<◌, ◌≤◌, ◌^◌, true, not, ◌∷◌, Some, IfSome, length, take, slice_index};
+ghost use Rattle.std.specs.Prelude.{◌≡◌, ◌+◌, ◌<◌, ◌≤◌, ◌^◌, not, ◌∷◌, Some, IfSome, length, take};
 ghost use Rattle.std.specs.List.{prefix_len};
 ghost use Rattle.tsl_text.specs.Lines.{is_blank, is_line_byte};
 ghost use Rattle.tsl_text.specs.Numbers.{number_in, opposite, signed_number_in};
@@ -24,11 +24,12 @@ pub fn front_number(text: &[u8]) -> (Option<i64>, usize)
     }
 }
 
-/// The same in one walk, where the word is a number. `None` where it is none.
+/// The same in one walk, where the word is a number. `None` where it is none, or where that is not seen in this walk.
 #[inline(always)]
-fn plain_number(text: &[u8]) -> Option<(i64, usize)>
+pub fn plain_number(text: &[u8]) -> Option<(i64, usize)>
     ensures len { IfSome result (λ found. found.1 ≡ prefix_len (λ byte. not (is_blank byte)) text.now) }
-    ensures bound { IfSome result (λ found. found.1 ≤ length text.now) }
+    ensures bound { IfSome result (λ found. found.1 < length text.now) }
+    ensures some { IfSome result (λ found. 0 < found.1) }
     ensures number { IfSome result (λ found. signed_number_in (take found.1 text.now) ≡ Some found.0) }
 {
     match text {
@@ -44,7 +45,7 @@ fn plain_number(text: &[u8]) -> Option<(i64, usize)>
 #[inline(always)]
 fn negative_number(digits: &[u8]) -> Option<(i64, usize)>
     ensures len { IfSome result (λ found. found.1 ≡ prefix_len (λ byte. not (is_blank byte)) (45 ∷ digits.now)) }
-    ensures bound { IfSome result (λ found. found.1 ≤ length digits.now + 1) }
+    ensures bound { IfSome result (λ found. found.1 < length digits.now + 1) }
     ensures number { IfSome result (λ found. signed_number_in (take found.1 (45 ∷ digits.now)) ≡ Some found.0) }
 {
     let (value, len) = plain_digits(digits)?;
@@ -63,38 +64,30 @@ fn opposite(value: u64) -> Option<i64>
     }
 }
 
-/// The number that the digits at the front spell, and how many they are, where 1 to 18 of them stand before a blank
-/// or the end.
+/// The number that the digits at the front spell, and how many they are, where 1 to 18 of them stand before a blank. `None`
+/// also where the text is too short for 18 digits and a blank, so that no digit needs a test whether the text ends.
 #[inline(always)]
 fn plain_digits(text: &[u8]) -> Option<(u64, usize)>
     ensures len { IfSome result (λ found. found.1 ≡ prefix_len (λ byte. not (is_blank byte)) text.now) }
-    ensures bound { IfSome result (λ found. found.1 ≤ length text.now) }
+    ensures bound { IfSome result (λ found. found.1 < length text.now) }
     ensures some { IfSome result (λ found. 0 < found.1) }
     ensures number { IfSome result (λ found. number_in (take found.1 text.now) ≡ Some found.0) }
     ensures small { IfSome result (λ found. found.0 < 10 ^ 18) }
 {
+    if text.len() <= MOST_DIGITS {
+        return None;
+    }
     let mut value = 0;
     let mut len = 0;
-    while len < text.len() && text[len].is_ascii_digit() {
-        if len == MOST_DIGITS {
-            return None;
-        }
+    while len < MOST_DIGITS && text[len].is_ascii_digit() {
         value = value * 10 + u64::from(text[len] - b'0');
         len += 1;
     }
-    if len > 0 && ends_at(text, len) {
+    if len > 0 && is_blank(text[len]) {
         Some((value, len))
     } else {
         None
     }
-}
-
-/// Whether a word that goes up to this place ends there: before a blank or at the end.
-fn ends_at(text: &[u8], place: usize) -> bool
-    requires { place ≤ length text.now }
-    ensures { result ≡ true → place < length text.now → is_blank (slice_index text.now place) ≡ true }
-{
-    place == text.len() || is_blank(text[place])
 }
 
 /// How many bytes at the front are no blanks.

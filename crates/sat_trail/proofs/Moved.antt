@@ -1,17 +1,17 @@
 -- A watch goes to another literal of its clause: what the visit keeps.
-use Rattle.std.proofs.Common.{◌≡◌, ℕ, ◌+◌, ◌<◌, true, false, List, length, Some, slice_get, get_or, sym, ap, ◌∙◌, subst, refl}
+use Rattle.std.proofs.Common.{◌≡◌, ℕ, ◌+◌, ◌<◌, ◌⊎◌, true, false, List, [], ◌∷◌, length, Some, slice_get, get_or, sym, ap, ◌∙◌, subst, refl}
 use Rattle.std.proofs.Common.{arith, inl, inr}
 use Rattle.std.proofs.lemmas.Option.{slice_get_within, same_Some, none-some, get_or_from_slice_get}
 use Rattle.std.proofs.lemmas.Bool.{false≢true, cases_lt, cases_eq}
 use Rattle.sequence.proofs.Places.{contains_at}
-use Rattle.clause_core.specs.Literals.{Lit, negation, has, code_of}
-use Rattle.clause_core.proofs.Sets.{code_one, has_from_Contains}
+use Rattle.clause_core.specs.Literals.{Lit, negation, same, has, code_of}
+use Rattle.clause_core.proofs.Sets.{code_one, has_from_Contains, same_from, AllByRecursion-has}
 use Rattle.sat_trail.specs.declared.watches.Watch.{Watch}
 use Rattle.sat_trail.specs.declared.watches.Pair.{Pair}
 use Rattle.sat_trail.specs.declared.watches.Watches.{Watches}
 use Rattle.sat_trail.specs.Entries.{literals_of}
 use Rattle.sat_trail.specs.States.{TrailState, IsSound}
-use Rattle.sat_trail.specs.internal.Watching.{HasWatch, HasList, TakesOut, AddsWatch, DropsWatch, IsOf, IsPairOf, IsPair, PutsPair, AreBlocked, AreWatched}
+use Rattle.sat_trail.specs.internal.Watching.{HasWatch, HasList, TakesOut, AddsWatch, DropsWatch, IsOf, IsPairOf, IsPair, HasNoMore, PutsPair, AreBlocked, AreWatched}
 use Rattle.sat_trail.specs.internal.Watching.{IsVisit, AreDue, Visits, IsFree, IsPairIn, IsNextPair}
 use Rattle.sat_trail.proofs.Soundness.{over_literal}
 use Rattle.sat_trail.proofs.Places.{entry_has}
@@ -25,6 +25,19 @@ use Rattle.sat_trail.proofs.Visits.{HasOther, other_in, of_clause, visits_on}
 
 pub spare_over : (t : TrailState) → IsSound t → (number : ℕ) (pair : Pair) → IsPairIn t number pair → pair.spare.index < t.variables
 spare_over t sound number pair h = over_literal t sound number h.clause pair.spare h.named h.is.spare
+
+-- the literals of a clause of three, where the spare one is not of the pair
+pub no_more : (clause : List Lit) (p : Pair) → length clause ≡ 3 → same p.spare p.first ≡ false → same p.spare p.second ≡ false →
+    IsPair clause p → HasNoMore clause p
+no_more (x ∷ y ∷ z ∷ []) p three a b is l member =
+    let of : (m : Lit) → has (x ∷ y ∷ z ∷ []) m ≡ true → (x ≡ m) ⊎ ((y ≡ m) ⊎ (z ≡ m)) =
+    λ m. AllByRecursion-has (λ n. (x ≡ n) ⊎ ((y ≡ n) ⊎ (z ≡ n))) (x ∷ y ∷ z ∷ []) m (inl refl, (inr (inl refl), (inr (inr refl), tt))) in
+    let apart : (m : Lit) → same p.spare m ≡ false → p.spare ≡ m → ⊥ = λ m h e. false≢true (sym h ∙ same_from p.spare m e) in
+    grind (arith, of p.first is.first, of p.second is.second, of p.spare is.spare, of l member, is.apart, apart p.first a, apart p.second b)
+no_more [] p three a b is l member = absurd (omega (arith, three))
+no_more (x ∷ []) p three a b is l member = absurd (omega (arith, three))
+no_more (x ∷ y ∷ []) p three a b is l member = absurd (omega (arith, three))
+no_more (x ∷ y ∷ z ∷ w ∷ rest) p three a b is l member = absurd (omega (arith, three))
 
 module _ {t : TrailState} {number : ℕ} {pair : Pair} {other spare first : Lit} (h : IsPairIn t number pair)
     (of : IsOf pair other) (of_spare : IsOf pair spare) where

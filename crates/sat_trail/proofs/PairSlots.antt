@@ -1,10 +1,9 @@
 -- The pair of a clause, or none, by its two literals.
-use Rattle.std.proofs.Common.{◌≡◌, Some, None, cond, sym, ap, ◌∙◌}
+use Rattle.std.proofs.Common.{◌≡◌, Some, None, cond}
 use Rattle.std.proofs.lemmas.Bool.{cond-true, cond-false, false_from_ne_true}
-use Rattle.clause_core.specs.Literals.{Lit, same}
+use Rattle.clause_core.specs.Literals.{same}
 use Rattle.clause_core.proofs.Sets.{same_is, same_from}
 use Rattle.sat_trail.specs.declared.watches.Pair.{Pair}
-use Rattle.sat_trail.specs.internal.Watching.{pair_of}
 
 pub empty_slot : (pair : Pair) → pair.first ≡ pair.second → cond (same pair.first pair.second) None (Some pair) ≡ None
 empty_slot pair is = cond-true (same pair.first pair.second) None (Some pair) (same_from pair.first pair.second is)
@@ -12,6 +11,3 @@ empty_slot pair is = cond-true (same pair.first pair.second) None (Some pair) (s
 pub full_slot : (pair : Pair) → (pair.first ≡ pair.second → ⊥) → cond (same pair.first pair.second) None (Some pair) ≡ Some pair
 full_slot pair apart = cond-false (same pair.first pair.second) None (Some pair)
     (false_from_ne_true (same pair.first pair.second) (λ s. apart (same_is pair.first pair.second s)))
-
-pub pair_apart : {pair : Pair} {first second : Lit} → pair ≡ pair_of first second → (second ≡ first → ⊥) → pair.first ≡ pair.second → ⊥
-pair_apart is apart e = apart (sym (ap (λ (p : Pair). p.first) (sym is) ∙ (e ∙ ap (λ (p : Pair). p.second) is)))

@@ -198,9 +198,9 @@ watched_released t w v number watched next is_open releases = subst (AreWatched 
 
 -- ---- a clause watches two literals
 
-module _ {t : TrailState} {w : Watches} (v : Watches) {number : ℕ} {first second : Lit} (sound : IsSound t) (watched : AreWatched t w)
-    (can : CanWatch t number first second) (attaches : Attaches w.lists.items number first second v.lists.items)
-    (puts : PutsPair w.pairs.items number (pair_of first second) v.pairs.items) (within : number < length v.pairs.items)
+module _ {t : TrailState} {w : Watches} (v : Watches) {number : ℕ} {first second spare : Lit} (sound : IsSound t) (watched : AreWatched t w)
+    (can : CanWatch t number first second) (third : has can.clause spare ≡ true) (attaches : Attaches w.lists.items number first second v.lists.items)
+    (puts : PutsPair w.pairs.items number (pair_of first second spare) v.pairs.items) (within : number < length v.pairs.items)
     (wide : length w.pairs.items ≤ length v.pairs.items) (few : length v.pairs.items ≤ length t.clauses) where
   open attaches use {between, at_first, at_second}
 
@@ -210,10 +210,10 @@ module _ {t : TrailState} {w : Watches} (v : Watches) {number : ℕ} {first seco
   second_in : code_of second < length between
   second_in = omega (arith, (lists_can sound watched can).1, at_first.all)
 
-  of_new : {n : ℕ} {pair : Pair} {l : Lit} → n ≡ number → IsPairOf v.pairs.items n pair → IsOf pair l → IsOf (pair_of first second) l
-  of_new {n} {pair} {l} e at of = subst (λ (q : Pair). IsOf q l) (sym (same_Some (pair_of first second) pair (pair_is_new puts at e))) of
+  of_new : {n : ℕ} {pair : Pair} {l : Lit} → n ≡ number → IsPairOf v.pairs.items n pair → IsOf pair l → IsOf (pair_of first second spare) l
+  of_new {n} {pair} {l} e at of = subst (λ (q : Pair). IsOf q l) (sym (same_Some (pair_of first second spare) pair (pair_is_new puts at e))) of
 
-  new_listed : (l : Lit) → IsOf (pair_of first second) l → (index : ℕ) × HasWatch v.lists.items (code_of l) number index
+  new_listed : (l : Lit) → IsOf (pair_of first second spare) l → (index : ℕ) × HasWatch v.lists.items (code_of l) number index
   new_listed l (inl e) = subst (λ (z : Lit). (index : ℕ) × HasWatch v.lists.items (code_of z) number index) e
       (let r = has_watch_new at_first first_in in (r.0, has_watch_more at_second r.1))
   new_listed l (inr e) = subst (λ (z : Lit). (index : ℕ) × HasWatch v.lists.items (code_of z) number index) e
@@ -228,10 +228,10 @@ module _ {t : TrailState} {w : Watches} (v : Watches) {number : ℕ} {first seco
         (blocked_within t.clauses w.lists.items wide watched.blocked));
     paired = λ n c pair named at. elim (cases_eq n number) [
       | inr d ↦ watched.paired n c pair named (pair_was puts at d)
-      | inl e ↦ subst (IsPair c) (same_Some (pair_of first second) pair (pair_is_new puts at e))
-          (subst (λ (d : List Lit). IsPair d (pair_of first second))
+      | inl e ↦ subst (IsPair c) (same_Some (pair_of first second spare) pair (pair_is_new puts at e))
+          (subst (λ (d : List Lit). IsPair d (pair_of first second spare))
           (same_Some can.clause c (sym can.named ∙ (ap (slice_get t.clauses) (sym e) ∙ named)))
-          (record { first = can.member; second = can.other; spare = can.member; apart = λ k. can.apart (sym k) }))
+          (record { first = can.member; second = can.other; spare = third; apart = λ k. can.apart (sym k) }))
     ];
     listed = λ n pair l at of. elim (cases_eq n number) [
       | inr d ↦ (let r = watched.listed n pair l (pair_was puts at d) of in (r.0, has_watch_more at_second (has_watch_more at_first r.1)))
@@ -240,7 +240,7 @@ module _ {t : TrailState} {w : Watches} (v : Watches) {number : ℕ} {first seco
   }
 
   -- its literals are not false, or it waits
-  watched_put : v ≡ record w { lists = v.lists; pairs = v.pairs } → ((c : List Lit) (l : Lit) → IsOf (pair_of first second) l →
+  watched_put : v ≡ record w { lists = v.lists; pairs = v.pairs } → ((c : List Lit) (l : Lit) → IsOf (pair_of first second spare) l →
       (has (literals_of t.entries) (negation l) ≡ false) ⊎ IsAside t.entries w.asides.items w.held number c) → AreWatched t v
   watched_put rest settled = subst (AreWatched t) (sym rest) (record {
     listing = listing_put;
@@ -255,27 +255,29 @@ module _ {t : TrailState} {w : Watches} (v : Watches) {number : ℕ} {first seco
     ];
     unpaired = λ n c named at. elim (cases_eq n number) [
       | inr d ↦ watched.unpaired n c named (pair_was puts at d)
-      | inl e ↦ absurd (none-some (pair_of first second) (sym (pair_is_new puts at e)))
+      | inl e ↦ absurd (none-some (pair_of first second spare) (sym (pair_is_new puts at e)))
     ];
   })
 
 pub both_free : (trues : List Lit) (pair : Pair) → has trues (negation pair.first) ≡ false → has trues (negation pair.second) ≡ false →
     (l : Lit) → IsOf pair l → has trues (negation l) ≡ false
-both_free trues pair first second l (inl e) = ap (λ (z : Lit). has trues (negation z)) (sym e) ∙ first
-both_free trues pair first second l (inr e) = ap (λ (z : Lit). has trues (negation z)) (sym e) ∙ second
+both_free trues pair first second l of = grind (arith, first, second, of)
 
 -- the next clause is taken in, and watches two literals that are not false
-pub watched_open : {t : TrailState} {w v : Watches} {number : ℕ} {first second : Lit} {pair : Pair} → IsSound t → AreWatched t w →
-    length w.pairs.items < length t.clauses → number ≡ length w.pairs.items → IsOpenBy t number first second →
-    Attaches w.lists.items number first second v.lists.items → pair ≡ pair_of first second →
-    v.pairs.items ≡ w.pairs.items ++ Some pair ∷ [] → v ≡ record w { lists = v.lists; pairs = v.pairs } → AreWatched t v
-watched_open {t} {w} {v} {number} {first} {second} {pair} sound watched more is free attaches pair_is pairs rest =
+pub watched_open : {t : TrailState} {w v : Watches} {number : ℕ} {first second : Lit} (spare : Lit) {literals : List Lit} → IsSound t →
+    AreWatched t w → length w.pairs.items < length t.clauses → number ≡ length w.pairs.items → IsOpenBy t number first second →
+    slice_get t.clauses number ≡ Some literals → has literals spare ≡ true → Attaches w.lists.items number first second v.lists.items →
+    v.pairs.items ≡ w.pairs.items ++ Some (pair_of first second spare) ∷ [] → v ≡ record w { lists = v.lists; pairs = v.pairs } →
+    AreWatched t v
+watched_open {t} {w} {v} {number} {first} {second} spare {literals} sound watched more is free named third attaches pairs rest =
+    let pair = pair_of first second spare in
     let count : length v.pairs.items ≡ length w.pairs.items + 1 = omega (arith, ap length pairs, length_push w.pairs.items (Some pair)) in
-    watched_put v sound watched free.watch attaches (subst (λ (q : Pair). PutsPair w.pairs.items number q v.pairs.items) pair_is
-    (subst (λ n. PutsPair w.pairs.items n pair v.pairs.items) (sym is)
-    (subst (PutsPair w.pairs.items (length w.pairs.items) pair) (sym pairs) (pair_push w.pairs.items pair))))
+    watched_put v sound watched free.watch
+    (ap (λ (ls : List Lit). has ls spare) (same_Some free.watch.clause literals (sym free.watch.named ∙ named)) ∙ third)
+    attaches (subst (λ n. PutsPair w.pairs.items n pair v.pairs.items) (sym is)
+    (subst (PutsPair w.pairs.items (length w.pairs.items) pair) (sym pairs) (pair_push w.pairs.items pair)))
     (omega (arith, is, count)) (omega (arith, count)) (omega (arith, count, more)) rest
-    (λ c l of. inl (both_free (literals_of t.entries) (pair_of first second) free.first_free free.second_free l of))
+    (λ c l of. inl (both_free (literals_of t.entries) pair free.first_free free.second_free l of))
 
 -- the next clause that waits does
 pub next_aside : {es : List Entry} {w : Watches} {number : ℕ} {clause : List Lit} → IsNextWaiting w number →
@@ -284,20 +286,22 @@ next_aside {es} {w} next =
     record { index = w.held; aside = next.aside; there = next.there; names = next.names; met = λ below. absurd (omega (arith, below)) }
 
 -- a clause that waits watches two literals
-module _ {t : TrailState} {w b : Watches} (v : Watches) {number : ℕ} {first second : Lit} {pair : Pair} (watched : AreWatched t w)
-    (next : IsNextWaiting w number) (is : pair ≡ pair_of first second) (lists_rest : b ≡ record w { lists = b.lists })
-    (pairs : v.pairs.items ≡ set b.pairs.items number (Some pair)) where
+module _ {t : TrailState} {w b : Watches} (v : Watches) {number : ℕ} (first second : Lit) (watched : AreWatched t w)
+    (next : IsNextWaiting w number) (lists_rest : b ≡ record w { lists = b.lists })
+    (pairs : v.pairs.items ≡ set b.pairs.items number (Some (pair_of first second first))) where
+  abbrev pair : Pair
+  pair = pair_of first second first
+
   within_pairs : number < length w.pairs.items
   within_pairs = omega (arith, watched.asides.known w.held next.aside next.there, next.names)
 
   same_pairs : b.pairs.items ≡ w.pairs.items
   same_pairs = ap (λ (x : Watches). x.pairs.items) lists_rest
 
-  pub both_puts : PutsPair w.pairs.items number (pair_of first second) v.pairs.items
-  both_puts = subst (PutsPair w.pairs.items number (pair_of first second)) (sym pairs)
-      (subst (λ (q : Pair). PutsPair w.pairs.items number q (set b.pairs.items number (Some pair))) is
+  pub both_puts : PutsPair w.pairs.items number pair v.pairs.items
+  both_puts = subst (PutsPair w.pairs.items number pair) (sym pairs)
       (subst (λ (ps : List (Option Pair)). PutsPair w.pairs.items number pair (set ps number (Some pair))) (sym same_pairs)
-      (pair_set w.pairs.items number pair within_pairs)))
+      (pair_set w.pairs.items number pair within_pairs))
 
   both_count : length v.pairs.items ≡ length w.pairs.items
   both_count = ap length pairs ∙ (length-set b.pairs.items number (Some pair) ∙ ap length same_pairs)
@@ -305,7 +309,7 @@ module _ {t : TrailState} {w b : Watches} (v : Watches) {number : ℕ} {first se
   pub rewatches_both : IsSound t → CanWatch t number first second → Attaches w.lists.items number first second v.lists.items →
       v ≡ record w { lists = v.lists; pairs = v.pairs } → Rewatches t w v
   rewatches_both sound can attaches rest = record {
-    watched = watched_put v sound watched can attaches both_puts (omega (arith, within_pairs, both_count))
+    watched = watched_put v sound watched can can.member attaches both_puts (omega (arith, within_pairs, both_count))
         (omega (arith, both_count)) (omega (arith, both_count, watched.pairs_few)) rest (λ c l of. inr (next_aside next));
     pairs = both_count;
     rest = rest;
@@ -315,18 +319,8 @@ module _ {t : TrailState} {w b : Watches} (v : Watches) {number : ℕ} {first se
 
 pub watched_by : {w : Watches} {number : ℕ} {pair : Pair} {first second : Lit} → IsPairOf w.pairs.items number pair → IsOf pair first →
     IsOf pair second → (second ≡ first → ⊥) → IsWatchedBy w number first second
-watched_by {w} {number} {pair} {first} {second} at (inl p) (inl q) apart = absurd (apart (sym q ∙ p))
-watched_by {w} {number} {pair} {first} {second} at (inr p) (inr q) apart = absurd (apart (sym q ∙ p))
-watched_by {w} {number} {pair} {first} {second} at (inl p) (inr q) apart = record {
-  pair = pair;
-  at = at;
-  only = λ l of. elim of [ inl e ↦ inl (sym p ∙ e) | inr e ↦ inr (sym q ∙ e) ];
-}
-watched_by {w} {number} {pair} {first} {second} at (inr p) (inl q) apart = record {
-  pair = pair;
-  at = at;
-  only = λ l of. elim of [ inl e ↦ inr (sym q ∙ e) | inr e ↦ inl (sym p ∙ e) ];
-}
+watched_by {w} {number} {pair} {first} {second} at p q apart =
+    record { pair = pair; at = at; only = λ l of. grind (arith, p, q, of, apart) }
 
 pub read_pair : (pairs : List (Option Pair)) {number : ℕ} {x : Option Pair} {pair : Pair} → number < length pairs →
     x ≡ get_or pairs number x → x ≡ Some pair → IsPairOf pairs number pair

@@ -8,8 +8,8 @@ ghost use Rattle.sat_trail.specs.declared.entries.Entry.{Entry};
 ghost use Rattle.sat_trail.specs.Entries.{literals_of, place_of};
 ghost use Rattle.sat_trail.specs.States.{TrailState, IsSound, Propagates, IsFalseAt, EndsWith};
 ghost use Rattle.sat_trail.specs.internal.Watching.{HasList, TakesOut, RenewsBlocker, AddsWatch, Attaches, RenewsWatch, DropsWatch, IsOf};
-ghost use Rattle.sat_trail.specs.internal.Watching.{IsPairIn, pair_of, IsNextPair, AreWatched, AreDue, AreOthersFalse, CanForce, CanWatch};
-ghost use Rattle.sat_trail.specs.internal.Watching.{IsOpenBy, HasStatus, IsFirstFree, AreFalseBefore, AreAllBefore, IsOther, IsFree};
+ghost use Rattle.sat_trail.specs.internal.Watching.{IsPairIn, IsNextPair, AreWatched, AreDue, AreOthersFalse, CanForce, CanWatch};
+ghost use Rattle.sat_trail.specs.internal.Watching.{IsOpenBy, HasStatus, IsPair, HasNoMore, IsFirstFree, AreFalseBefore, AreAllBefore, IsOther, IsFree};
 ghost use Rattle.sat_trail.specs.internal.Watching.{AreFalseBetween, IsNextWaiting, IsOpenAt, IsWatchedBy, SetsAside, Releases, left_of};
 ghost use Rattle.sat_trail.specs.internal.Watching.{LeavesSome, LooksAtOne, MayPropagate, PropagatesWatched, GoesBack, StaysAt, Rewatches};
 ghost use Rattle.sat_trail.specs.internal.Watching.{IsVisiting, Visits, IsUnitBy};
@@ -102,22 +102,11 @@ pub struct Pair {
     /// The other one.
     pub second: Literal,
     /// A literal of the clause, which is tried before the clause is read: the one that was watched before the
-    /// last move. In a clause of three literals it is then the third one.
+    /// last move. In a clause of three literals it is the third one, unless one was false when the clause was taken in.
     pub spare: Literal,
 }
 
 impl Pair {
-    /// Of two literals of a clause that watched none so far.
-    fn new(first: Literal, second: Literal) -> Pair
-        ensures { result ≡ pair_of first second }
-    {
-        Pair {
-            first,
-            second,
-            spare: first,
-        }
-    }
-
     /// The literal of the pair that is not this one.
     fn other(&self, literal: Literal) -> Literal
         ensures of { IsOf self.now result }
@@ -163,7 +152,11 @@ impl PairSlot {
     {
         let literal = Literal::default();
         PairSlot {
-            pair: Pair::new(literal, literal),
+            pair: Pair {
+                first: literal,
+                second: literal,
+                spare: literal,
+            },
         }
     }
 
@@ -311,7 +304,12 @@ impl Watches {
         match status_of(stack, number) {
             Status::Open(first, second) => {
                 self.attach(number, first, second)?;
-                self.pairs.push(PairSlot::of(Pair::new(first, second)))?;
+                let spare = third_or(stack.clause(number), first);
+                self.pairs.push(PairSlot::of(Pair {
+                    first,
+                    second,
+                    spare,
+                }))?;
                 Ok(())
             }
             _ => {
@@ -398,7 +396,11 @@ impl Watches {
             return Ok(());
         }
         self.attach(number, first, second)?;
-        self.pairs[number as usize] = PairSlot::of(Pair::new(first, second));
+        self.pairs[number as usize] = PairSlot::of(Pair {
+            first,
+            second,
+            spare: first,
+        });
         Ok(())
     }
 
@@ -626,6 +628,9 @@ fn next_pair(stack: &Stack<'_>, number: u32, pair: &Pair, other: Literal) -> Opt
         });
     }
     let literals = stack.clause(number);
+    if has_no_more(literals, pair) && is_false(stack, spare) {
+        return None;
+    }
     let start = start_in(literals.len(), spare);
     let position = free_position(stack, literals, other, start)?;
     Some(Pair {
@@ -633,6 +638,27 @@ fn next_pair(stack: &Stack<'_>, number: u32, pair: &Pair, other: Literal) -> Opt
         second: other,
         spare,
     })
+}
+
+/// The third literal of a clause, where it has three; else this one.
+fn third_or(literals: &[Literal], literal: Literal) -> Literal
+    requires { has literals.now literal ≡ true }
+    ensures { has literals.now result ≡ true }
+{
+    match literals {
+        [_, _, third] => *third,
+        _ => literal,
+    }
+}
+
+/// Whether a clause is known to have three literals: those of its pair and the spare one.
+fn has_no_more(literals: &[Literal], pair: &Pair) -> bool
+    ensures { result ≡ true → IsPair literals.now pair.now → HasNoMore literals.now pair.now }
+{
+    if literals.len() != 3 || pair.spare == pair.first {
+        return false;
+    }
+    pair.spare != pair.second
 }
 
 /// A position below a length, by which literal became false: its code is spread over 32 bits by

@@ -79,9 +79,8 @@ IsOf pair l = (pair.first ≡ l) ⊎ (pair.second ≡ l)
 abbrev pub IsPairOf : List (Option Pair) → ℕ → Pair → Type 0
 IsPairOf pairs number pair = slice_get pairs number ≡ Some (Some pair)
 
--- the pair of two literals of a clause that watched none so far
-abbrev pub pair_of : Lit → Lit → Pair
-pair_of first second = record { first = first; second = second; spare = first }
+abbrev pub pair_of : Lit → Lit → Lit → Pair
+pair_of first second spare = record { first = first; second = second; spare = spare }
 
 -- the clause of this number has this pair, and all others have what they had
 pub record PutsPair (old : List (Option Pair)) (number : ℕ) (pair : Pair) (new : List (Option Pair)) : Type 0 where
@@ -94,6 +93,10 @@ pub record IsPair (clause : List Lit) (pair : Pair) : Type 0 where
   pub second : has clause pair.second ≡ true
   pub spare : has clause pair.spare ≡ true
   pub apart : pair.first ≡ pair.second → ⊥
+
+-- each literal of the clause is one of the pair or the spare one
+abbrev pub HasNoMore : List Lit → Pair → Type 0
+HasNoMore clause pair = (l : Lit) → has clause l ≡ true → IsOf pair l ⊎ (pair.spare ≡ l)
 
 -- ---- what is true
 
@@ -233,7 +236,7 @@ pub record IsOpenAt (t : TrailState) (w : Watches) (number : ℕ) : Type 0 where
 pub record IsWatchedBy (w : Watches) (number : ℕ) (first second : Lit) : Type 0 where
   pub pair : Pair
   pub at : IsPairOf w.pairs.items number pair
-  pub only : (l : Lit) → IsOf pair l → IsOf (pair_of first second) l
+  pub only : (l : Lit) → IsOf pair l → IsOf (pair_of first second first) l
 
 -- a clause watches two literals, other ones or the same, and nothing else changes
 pub record Rewatches (t : TrailState) (old new : Watches) : Type 0 where

@@ -3,7 +3,7 @@ use Rattle.std.proofs.lemmas.List.{take_rest}
 use Rattle.tsl_text.specs.Lines.{is_blank}
 use Rattle.cnf_reader.specs.internal.RestOfText.{begins_with_blank}
 use Rattle.cnf_reader.specs.internal.Reading.{answer_left}
-use Rattle.cnf_reader.proofs.PlaceLemmas.{all_pass, word_stands, cut_at}
+use Rattle.cnf_reader.proofs.PlaceLemmas.{all_pass, some_byte, word_stands, cut_at}
 use Rattle.cnf_reader.proofs.places.next_word.Goals as goal
 
 pub kept_word-requires-clause-whole : goal.kept_word-requires-clause-whole
@@ -17,7 +17,8 @@ returns-clause-next c =
     let text = start.text.now in
     let len = c.front_number-number.result.1 in
     let within : len < length text = omega (arith, c.front_number-number.ensures.bound) in
-    let word = word_stands text len c.front_number-number.ensures.len within c.in_ok-start.ensures.word in record {
+    let byte : 0 < len = omega (arith, c.front_number-number.ensures.len, some_byte text (omega arith) c.in_ok-start.ensures.word) in
+    let word = word_stands text len c.front_number-number.ensures.len within byte in record {
       answer = λ told more. c.in_ok-start.ensures.goes_on.answer told more
           ∙ ap (answer_left start.stage told start.number) (cut_at text more len);
       few = search rules;

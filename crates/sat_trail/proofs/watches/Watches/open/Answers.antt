@@ -17,7 +17,7 @@ returns-clause-watched c =
     (record {
       pair = e.pair.pair;
       at = e.pair.at;
-      not_false = λ l of. both_free (literals_of c.args.stack.now.entries) (pair_of c.args.first c.args.second)
+      not_false = λ l of. both_free (literals_of c.args.stack.now.entries) (pair_of c.args.first c.args.second c.args.first)
           c.requires.open.first_free c.requires.open.second_free l (e.pair.only l of);
     }) c.release.ensures
 

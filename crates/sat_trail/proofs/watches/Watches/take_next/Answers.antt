@@ -1,10 +1,10 @@
-use Rattle.std.proofs.Common.{◌≡◌, ◌∷◌, [], ◌++◌, length, Option, Some, ap, refl, arith, ◌∙◌}
+use Rattle.std.proofs.Common.{◌≡◌, ◌∷◌, [], ◌++◌, length, Option, Some, sym, ap, refl, arith, ◌∙◌}
 use Rattle.std.proofs.lemmas.List.{length_push}
 use Rattle.sat_trail.specs.declared.watches.Pair.{Pair}
 use Rattle.sat_trail.specs.declared.watches.Watches.{Watches}
+use Rattle.sat_trail.specs.internal.Watching.{pair_of}
 use Rattle.sat_trail.proofs.Stays.{lists_can}
 use Rattle.sat_trail.proofs.Waiting.{watched_taken, watched_open}
-use Rattle.sat_trail.proofs.PairSlots.{pair_apart}
 use Rattle.sat_trail.proofs.watches.Watches.take_next.Goals as goal
 
 pub attach-requires-clause-first : goal.attach-requires-clause-first
@@ -14,15 +14,15 @@ pub attach-requires-clause-second : goal.attach-requires-clause-second
 attach-requires-clause-second c = (lists_can c.requires.ready.sound c.requires.ready.watched c.in-Open.ensures.watch).1
 
 pub of-requires : goal.of-requires
-of-requires c = pair_apart c.new.ensures c.in-Open.ensures.watch.apart
+of-requires c = λ e. c.in-Open.ensures.watch.apart (sym e)
 
 pub returns-in_ok-push-in-Open-clause-watched : goal.returns-in_ok-push-in-Open-clause-watched
 returns-in_ok-push-in-Open-clause-watched c =
     let w = c.args.self.now in
-    watched_open {v = record c.attach.new.self { pairs = c.push.new.self }} c.requires.ready.sound c.requires.ready.watched c.requires.more
-    (omega (arith, c.len-number.ensures, w.pairs.ok.0)) c.in-Open.ensures c.in_ok-attach-in-Open.ensures.lists c.new.ensures
+    watched_open {v = record c.attach.new.self { pairs = c.push.new.self }} c.third_or-spare.result c.requires.ready.sound c.requires.ready.watched c.requires.more
+    (omega (arith, c.len-number.ensures, w.pairs.ok.0)) c.in-Open.ensures c.clause.ensures.value c.third_or-spare.ensures c.in_ok-attach-in-Open.ensures.lists
     (c.in_ok-push-in-Open.ensures.items ∙ (ap (λ (x : Option Pair). c.attach.new.self.pairs.items ++ x ∷ []) c.of.ensures
-    ∙ ap (λ (x : Watches). x.pairs.items ++ Some c.new.result ∷ []) c.attach.ensures.rest))
+    ∙ ap (λ (x : Watches). x.pairs.items ++ Some (pair_of c.in-Open.first c.in-Open.second c.third_or-spare.result) ∷ []) c.attach.ensures.rest))
     (ap (λ (x : Watches). record x { pairs = c.push.new.self }) c.attach.ensures.rest)
 
 pub returns-in_ok-push-in_default-2-clause-watched : goal.returns-in_ok-push-in_default-2-clause-watched
