@@ -54,8 +54,6 @@ use Rattle.program_listing.specs.LineText.{
   node_is_within,
   line_is_within,
 }
-use Rattle.program_listing.specs.internal.LineReading.{skipped}
-use Rattle.program_listing.specs.internal.LineOrder.{cut}
 use Rattle.program_listing.proofs.LinesRead.{IsLineAt}
 use Rattle.program_listing.proofs.Standing.{stand_append, stand_split}
 use Rattle.program_listing.proofs.WordsRead.{short_below, usable_run}
@@ -219,31 +217,7 @@ span (named n ∷ xs) p q s =
       moves = λ rest. (s.0, more.bytes ++ rest, append_assoc s.0 more.bytes rest, s.3, s.4, more.moves rest);
     }
 
--- ---- the first line of what is left
-
--- what is cut off
-pub cut_sound : (p line rest : Place) → cut p ≡ Some (line, rest) →
-    (p.bytes ≡ line.bytes ++ 10 ∷ rest.bytes) × (is_line line.bytes ≡ true) × (line.at ≡ p.at) × (rest.at ≡ p.at + (length line.bytes + 1))
-cut_sound p line rest e = by_test (ltb len (length p.bytes)) refl e where
-  len : ℕ
-  len = prefix_len is_line_byte p.bytes
-
-  by_test : (t : Bool) → ltb len (length p.bytes) ≡ t →
-      cond {A = Option (Place × Place)} t (Some (record { at = p.at; bytes = take len p.bytes }, skipped (len + 1) p)) None
-      ≡ Some (line, rest) →
-      (p.bytes ≡ line.bytes ++ 10 ∷ rest.bytes) × (is_line line.bytes ≡ true) × (line.at ≡ p.at)
-      × (rest.at ≡ p.at + (length line.bytes + 1))
-  by_test false h f = absurd (none-some (line, rest) f)
-  by_test true h f =
-      let split = split_feed p.bytes (take len p.bytes) (drop (len + 1) p.bytes) len refl (ltb-true len (length p.bytes) h) refl refl in
-      let P : Place × Place → Type 0 = λ v. (p.bytes ≡ v.0.bytes ++ 10 ∷ v.1.bytes) × (is_line v.0.bytes ≡ true) × (v.0.at ≡ p.at)
-      × (v.1.at ≡ p.at + (length v.0.bytes + 1)) in
-      subst P (same_Some _ (line, rest) f) (
-        split.0,
-        split.1,
-        refl,
-        ap (λ (n : ℕ). p.at + (n + 1)) (sym (length-prefix_len is_line_byte p.bytes)),
-      )
+-- ---- a line and its line feed
 
 -- a line with its line feed, and the line alone
 pub record EndedLine (t : LineTree) (p q : Place) : Type 0 where
@@ -312,17 +286,3 @@ line_alone t p q h e = record {
   ends = refl;
   within = h;
 }
-
--- a line has a byte
-cons_some : (bytes : List ℕ) (c : ℕ) (cs : List ℕ) → bytes ≡ c ∷ cs → 0 < length bytes
-cons_some bytes c cs e = let same : length bytes ≡ suc (length cs) = ap length e in omega arith
-
-pub some_bytes : (p : Place) (t : LineTree) → IsLineAt p t → 0 < length p.bytes
-some_bytes p head_line l = cons_some p.bytes _ _ l.stands.1
-some_bytes p (input n) l = cons_some p.bytes _ _ l.stands.1
-some_bytes p (cell n) l = cons_some p.bytes _ _ l.stands.1
-some_bytes p (output n) l = cons_some p.bytes _ _ l.stands.1
-some_bytes p (window w) l = cons_some p.bytes _ _ l.stands.1
-some_bytes p (node i n) l = cons_some p.bytes _ _ l.stands.1
-some_bytes p (state i n) l = cons_some p.bytes _ _ l.stands.1
-some_bytes p end_line l = cons_some p.bytes _ _ l.stands.1

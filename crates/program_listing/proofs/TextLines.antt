@@ -3,10 +3,10 @@ use Rattle.std.proofs.Common.{◌≡◌, ℕ, suc, ◌+◌, ◌-◌, ◌<◌, �
 use Rattle.std.proofs.Common.{drop}
 use Rattle.std.proofs.Common.{map, flat_map, codes, Option, Some, None, ◌⊎◌, inl, inr, slice_get, refl, sym, ap, subst, ◌∙◌, append_assoc}
 use Rattle.std.proofs.Common.{arith}
-use Rattle.std.specs.Prelude.{is_none, option_map, option_and_then, if◌then◌else◌}
+use Rattle.std.specs.Prelude.{is_none, is_some, option_and_then, cond}
 use Rattle.std.specs.List.{list_all, AllByRecursion}
 use Rattle.std.specs.Str.{bytes_eq}
-use Rattle.std.proofs.lemmas.Bool.{and_parts, and_from}
+use Rattle.std.proofs.lemmas.Bool.{and_parts, and_from, false≢true}
 use Rattle.std.proofs.lemmas.Grind.{flat_map-append}
 use Rattle.std.proofs.lemmas.List.{append-nil, map-append, drop-append-le, take-append-le, length-drop}
 use Rattle.std.proofs.lemmas.List.Quantifiers.{position-Some}
@@ -27,10 +27,12 @@ use Rattle.program_listing.specs.Listing.{declared_entry, declared, IsListing}
 use Rattle.program_listing.specs.ListingTree.{ListingTree}
 use Rattle.program_listing.specs.LineText.{Piece, word, named, Place, Stand, LineTree, head_line, input, cell, output, window, node, state}
 use Rattle.program_listing.specs.LineText.{end_line, ended_pieces, line_is_within, listing_lines}
-use Rattle.program_listing.specs.internal.LineReading.{read_line}
-use Rattle.program_listing.specs.internal.LineOrder.{Progress, fresh, going, done, may_stand, progress_with, when, add, add_all, listing_of}
-use Rattle.program_listing.specs.internal.LineOrder.{declares, ListingState, start, whole, step}
-use Rattle.program_listing.specs.internal.LineOrder.{is_done, entry_in, entries_in, are_new, state_after, with_line, LiesIn, DeclaresIn}
+use Rattle.program_listing.specs.declared.rest.LineError.{LineError}
+use Rattle.program_listing.specs.declared.rest.LineError.TheVariants.{Form, NoMemory}
+use Rattle.program_listing.specs.internal.LineReading.{IsMisread, read_line}
+use Rattle.program_listing.specs.internal.LineOrder.{Progress, done, add, add_all, listing_of}
+use Rattle.program_listing.specs.internal.LineOrder.{declares, ListingState, start, whole, step, step_at, IsRepeated}
+use Rattle.program_listing.specs.internal.LineOrder.{is_done, entry_in, entries_in, are_new, state_after, if_new, with_line, LiesIn, DeclaresIn}
 use Rattle.program_listing.proofs.LineFeeds.{line_alone, ended_line, line_before_feed}
 use Rattle.program_listing.proofs.LinesRead.{IsLineAt, line_sound, line_complete}
 use Rattle.program_listing.proofs.ListingFacts.{listing_from}
@@ -157,19 +159,19 @@ pub record Stepped (s t : ListingState) (line : List ℕ) : Type 0 where
 pub stepped : (s t : ListingState) (line : List ℕ) → step s line ≡ Some t → Stepped s t line
 stepped s t line h =
     let found = and_then_some (read_line (place_of s line)) (with_line s (place_of s line)) t h in
-    by found.0 found.1 (are_new s.names (entries_in (place_of s line) found.0)) (add s.progress found.0) refl refl found.2
+    let more = and_then_some (add s.progress found.0) (if_new s (place_of s line) found.0) t found.2 in
+    by found.0 more.0 found.1 more.1 (are_new s.names (entries_in (place_of s line) found.0)) refl more.2
   where
-    by : (tree : LineTree) → read_line (place_of s line) ≡ Some tree → (b : Bool) (o : Option Progress) →
-        are_new s.names (entries_in (place_of s line) tree) ≡ b → add s.progress tree ≡ o →
-        option_map (state_after s (place_of s line) tree) (if b then o else None) ≡ Some t → Stepped s t line
-    by tree read false o e f k = absurd (none-some t k)
-    by tree read true None e f k = absurd (none-some t k)
-    by tree read true (Some q) e f k = record {
+    by : (tree : LineTree) (q : Progress) → read_line (place_of s line) ≡ Some tree → add s.progress tree ≡ Some q → (b : Bool) →
+        are_new s.names (entries_in (place_of s line) tree) ≡ b →
+        cond b (Some (state_after s (place_of s line) tree q)) None ≡ Some t → Stepped s t line
+    by tree q read added false e k = absurd (none-some t k)
+    by tree q read added true e k = record {
       tree = tree;
       progress = q;
       read = read;
       new = e;
-      added = f;
+      added = added;
       is = same_Some (state_after s (place_of s line) tree q) t k;
     }
 
@@ -177,8 +179,30 @@ pub step_is : (s : ListingState) (line : List ℕ) (tree : LineTree) (q : Progre
     are_new s.names (entries_in (place_of s line) tree) ≡ true → add s.progress tree ≡ Some q →
     step s line ≡ Some (state_after s (place_of s line) tree q)
 step_is s line tree q read new added =
-    ap (option_and_then (with_line s (place_of s line))) read
-    ∙ (λ i. option_map (state_after s (place_of s line) tree) (if new i then added i else None))
+    ap (option_and_then (with_line s (place_of s line))) read ∙ ap (option_and_then (if_new s (place_of s line) tree)) added
+    ∙ ap (λ (b : Bool). cond b (Some (state_after s (place_of s line) tree q)) None) new
+
+-- a line that may not stand next, or that declares a name again
+pub refused : (s : ListingState) (bytes : List ℕ) (p : Place) (tree : LineTree) → p ≡ place_of s bytes → read_line p ≡ Some tree →
+    (is_some (add s.progress tree) && are_new s.names (entries_in p tree)) ≡ false → step s bytes ≡ None
+refused s bytes p tree at read h =
+    ap (step_at s) (sym at) ∙ ap (option_and_then (with_line s p)) read ∙ by (add s.progress tree) (are_new s.names (entries_in p tree)) h
+  where
+    by : (o : Option Progress) (b : Bool) → (is_some o && b) ≡ false →
+        option_and_then (λ (q : Progress). cond b (Some (state_after s p tree q)) None) o ≡ None
+    by None b h = refl
+    by (Some q) false h = refl
+    by (Some q) true h = absurd (false≢true (sym h))
+
+neither : {b : Bool} (a : Bool) → b ≡ false → (a && b) ≡ false
+neither false h = refl
+neither true h = h
+
+pub repeated : (s : ListingState) (bytes : List ℕ) (p : Place) (tree : LineTree) → p ≡ place_of s bytes → read_line p ≡ Some tree →
+    (fault : LineError) → IsRepeated (are_new s.names (entries_in p tree)) fault → IsMisread (step s bytes) fault
+repeated s bytes p tree at read Form h =
+    refused s bytes p tree at read (neither (is_some (add s.progress tree)) h)
+repeated s bytes p tree at read NoMemory h = tt
 
 -- ---- what lines say
 
@@ -389,22 +413,3 @@ leads_to_text text l r = record {
   says = r.says;
   done = ap is_done r.done;
 }
-
--- a line that was added begins the text
-pub never_fresh : (p q : Progress) (t : LineTree) → add p t ≡ Some q → q ≡ fresh → ⊥
-never_fresh p q t h e = by p t (h ∙ ap Some e) where
-  by : (p : Progress) (t : LineTree) → add p t ≡ Some fresh → ⊥
-  by fresh head_line k = absurd cc
-  by fresh _ k = none-some fresh k
-  by (done l) t k = none-some fresh k
-  by (going l) t k = added_fresh (may_stand l t) t k where
-    added_fresh : (b : Bool) (t : LineTree) → when b (progress_with l t) ≡ Some fresh → ⊥
-    added_fresh false t k = none-some fresh k
-    added_fresh true head_line k = absurd cc
-    added_fresh true (input n) k = absurd cc
-    added_fresh true (cell n) k = absurd cc
-    added_fresh true (output n) k = absurd cc
-    added_fresh true (window w) k = absurd cc
-    added_fresh true (node i n) k = absurd cc
-    added_fresh true (state i n) k = absurd cc
-    added_fresh true end_line k = absurd cc
