@@ -13,16 +13,17 @@ use Rattle.program_listing.specs.LineText.{LineTree, head_line, node, state, end
 use Rattle.program_listing.specs.internal.LineReading.{repeat, repeat_most, read_line}
 use Rattle.program_listing.specs.internal.LineOrder.{Progress, fresh, going, done, is_nil, is_done, add, listing_of, declares, entry_in}
 use Rattle.program_listing.specs.internal.LineOrder.{are_new, state_after, ListingState, start, whole, step}
-use Rattle.program_listing.proofs.TextLines.{Told, told_start, told_more, step_is, listing_of_lines, listing_leads, leads_to_text}
+use Rattle.program_listing.proofs.OrderOfLines.{IsInOrder, grown}
+use Rattle.program_listing.proofs.TextLines.{stepped, step_is, listing_of_lines, listing_leads, leads_to_text}
 
 -- ---- a line that goes on
 
--- what lines lead to
 abbrev Reached : ListingState → Type 0
-Reached s = (ls : List (List ℕ)) × Told ls s
+Reached s = IsInOrder s.progress
 
 kept : (s t : ListingState) (l : List ℕ) → Reached s → step s l ≡ Some t → Reached t
-kept s t l r h = (r.0 ++ l ∷ [], told_more r.0 s t l r.1 h)
+kept s t l r h =
+    let st = stepped s t l h in subst Reached st.is ((grown s.progress st.tree st.progress st.added).in_order r)
 
 abbrev nothing_to_do : NodeLine
 nothing_to_do = assignment_line [] 0
@@ -68,7 +69,7 @@ end_read : (at : ℕ) → read_line (record { at = at; bytes = codes "end" }) �
 end_read at = refl
 
 goes : (s : ListingState) → Reached s → (whole s ≡ true) ⊎ Goes step whole Reached measure s
-goes s r = by s.progress refl r.1.made.valid where
+goes s r = by s.progress refl r where
   by_lists : (l : ListingTree) (nodes : List NodeLine) (states : List ℕ) → s.progress ≡ going (record l { nodes = nodes; states = states }) →
       (is_nil nodes ≡ true → is_nil states ≡ true) → Goes step whole Reached measure s
   by_lists l [] [] e valid =
@@ -82,18 +83,15 @@ goes s r = by s.progress refl r.1.made.valid where
       by_line s _ (done (record l { nodes = n ∷ nodes; states = k ∷ states })) (codes "end") end_line e refl (end_read s.at) refl refl
       (omega arith)
 
-  by : (p : Progress) → s.progress ≡ p → (is_nil (listing_of s.progress).nodes ≡ true → is_nil (listing_of s.progress).states ≡ true) →
-      (whole s ≡ true) ⊎ Goes step whole Reached measure s
+  by : (p : Progress) → s.progress ≡ p → IsInOrder p → (whole s ≡ true) ⊎ Goes step whole Reached measure s
   by fresh e valid =
       inr (by_line s fresh (going empty_listing) (codes "tslprogram 1") head_line e refl (head_read s.at) refl refl (omega arith))
   by (done l) e valid = inl (ap is_done e)
-  by (going l) e valid =
-      let P : Progress → Type 0 = λ x. is_nil (listing_of x).nodes ≡ true → is_nil (listing_of x).states ≡ true in
-      inr (by_lists l l.nodes l.states e (subst P e valid))
+  by (going l) e valid = inr (by_lists l l.nodes l.states e valid)
 
 live : IsLive step whole start Reached
 live = record {
-  first = ([], told_start);
+  first = tt;
   kept = kept;
   ends = λ s r. ends_by step whole Reached measure kept goes (suc (measure s)) s (omega arith) r;
 }

@@ -30,13 +30,13 @@ use Rattle.program_listing.specs.LineText.{end_line, ended_pieces, line_is_withi
 use Rattle.program_listing.specs.declared.rest.LineError.{LineError}
 use Rattle.program_listing.specs.declared.rest.LineError.TheVariants.{Form, NoMemory}
 use Rattle.program_listing.specs.internal.LineReading.{IsMisread, read_line}
-use Rattle.program_listing.specs.internal.LineOrder.{Progress, done, add, add_all, listing_of}
+use Rattle.program_listing.specs.internal.LineOrder.{Progress, fresh, done, add, add_all, listing_of}
 use Rattle.program_listing.specs.internal.LineOrder.{declares, ListingState, start, whole, step, step_at, IsRepeated}
 use Rattle.program_listing.specs.internal.LineOrder.{is_done, entry_in, entries_in, are_new, state_after, if_new, with_line, LiesIn, DeclaresIn}
 use Rattle.program_listing.proofs.LineFeeds.{line_alone, ended_line, line_before_feed}
 use Rattle.program_listing.proofs.LinesRead.{IsLineAt, line_sound, line_complete}
 use Rattle.program_listing.proofs.ListingFacts.{listing_from}
-use Rattle.program_listing.proofs.OrderOfLines.{listing_adds, Made, made_fresh, made_more, listing_made}
+use Rattle.program_listing.proofs.OrderOfLines.{after_lines, listing_adds, Grown, grown, grown_all}
 use Rattle.program_listing.proofs.Standing.{stand_append, stand_split}
 
 -- ---- the name that a line declares
@@ -215,7 +215,7 @@ front_more front l rest =
 
 pub record Told (ls : List (List ℕ)) (s : ListingState) : Type 0 where
   pub trees : List LineTree
-  pub made : Made trees s.progress
+  pub adds : add_all trees fresh ≡ Some s.progress
   pub place : s.at ≡ length (text_of_lines ls)
   pub within : list_all line_is_within trees ≡ true
   pub stands : (rest : List ℕ) → Stand (flat_map ended_pieces trees) (record { at = 0; bytes = text_of_lines ls ++ rest })
@@ -226,7 +226,7 @@ pub record Told (ls : List (List ℕ)) (s : ListingState) : Type 0 where
 pub told_start : Told [] start
 told_start = record {
   trees = [];
-  made = made_fresh;
+  adds = refl;
   place = refl;
   within = refl;
   stands = λ rest. refl;
@@ -237,7 +237,7 @@ told_start = record {
 pub told_more : (ls : List (List ℕ)) (s t : ListingState) (l : List ℕ) → Told ls s → step s l ≡ Some t → Told (ls ++ l ∷ []) t
 told_more ls s t l r h = subst (Told (ls ++ l ∷ [])) st.is (record {
   trees = r.trees ++ st.tree ∷ [];
-  made = made;
+  adds = after_lines r.trees (st.tree ∷ []) fresh s.progress r.adds ∙ ap (option_and_then (add_all [])) st.added;
   place =
       (let len : length (text_of_lines (ls ++ l ∷ [])) ≡ length front + (length l + 1) =
       ap length (text_push ls l) ∙ length-append front (l ++ 10 ∷ []) ∙ ap (λ (n : ℕ). length front + n) (length-append l (10 ∷ [])) in
@@ -260,9 +260,6 @@ told_more ls s t l r h = subst (Told (ls ++ l ∷ [])) st.is (record {
     at : IsLineAt p st.tree
     at = line_sound p st.tree st.read
 
-    made : Made (r.trees ++ st.tree ∷ []) st.progress
-    made = made_more r.trees s.progress st.progress st.tree r.made st.added
-
     whole_text : (rest : List ℕ) → text_of_lines (ls ++ l ∷ []) ++ rest ≡ front ++ (l ++ 10 ∷ rest)
     whole_text rest = ap (λ (zs : List ℕ). zs ++ rest) (text_push ls l) ∙ front_more front l rest
 
@@ -280,12 +277,6 @@ told_more ls s t l r h = subst (Told (ls ++ l ∷ [])) st.is (record {
         (record { at = s.at; bytes = l ++ 10 ∷ rest }) (record { at = s.at + (length l + 1); bytes = rest }) (r.stands (l ++ 10 ∷ rest))
         (line_before_feed st.tree p at.end at.stands at.ends rest)))
 
-    declared_more : declared (listing_of st.progress) ≡ declared (listing_of s.progress) ++ declares st.tree
-    declared_more =
-        made.names_are ∙ flat_map-append declares r.trees (st.tree ∷ [])
-        ∙ ap (λ (ns : List Name). flat_map declares r.trees ++ ns) (append-nil (declares st.tree))
-        ∙ ap (λ (ns : List Name). ns ++ declares st.tree) (sym r.made.names_are)
-
     names : (rest : List ℕ) → s.names ++ entries_in p st.tree
         ≡ map (declared_entry (text_of_lines (ls ++ l ∷ []) ++ rest)) (declared (listing_of st.progress))
     names rest =
@@ -293,7 +284,7 @@ told_more ls s t l r h = subst (Told (ls ++ l ∷ [])) st.is (record {
         let own = same_entries front l (10 ∷ rest) s.at r.place (declares st.tree) (declares_in p st.tree at) in
         (λ i. r.names (l ++ 10 ∷ rest) i ++ sym own i)
         ∙ sym (map-append (declared_entry T) (declared (listing_of s.progress)) (declares st.tree))
-        ∙ (λ i. map (declared_entry (sym (whole_text rest) i)) (sym declared_more i))
+        ∙ (λ i. map (declared_entry (sym (whole_text rest) i)) (sym (grown s.progress st.tree st.progress st.added).names i))
 
 pub told_all : (ls ms : List (List ℕ)) (s t : ListingState) → Told ls s → steps step s ms ≡ Some t → Told (ls ++ ms) t
 told_all ls [] s t r h =
@@ -311,7 +302,8 @@ pub listing_of_lines : (ls : List (List ℕ)) (t : ListingState) (l : ListingTre
 listing_of_lines ls t l says e =
     let r = told_all [] ls start t told_start says in
     let text : List ℕ = text_of_lines ls in
-    let made : Made r.trees (done l) = subst (Made r.trees) e r.made in
+    let made = grown_all r.trees fresh (done l) (r.adds ∙ ap Some e) in
+    let both = made.2 tt in
     let P : List ℕ → Type 0 = λ bytes. Stand (flat_map ended_pieces r.trees) (record { at = 0; bytes = bytes })
     (record { at = t.at; bytes = [] }) in
     let Q : List LineTree → Type 0 = λ ts. Stand (flat_map ended_pieces ts) (record { at = 0; bytes = text })
@@ -319,8 +311,8 @@ listing_of_lines ls t l says e =
     let R : List LineTree → Type 0 = λ ts. list_all line_is_within ts ≡ true in
     let names : t.names ≡ map (declared_entry text) (declared l) =
     r.names [] ∙ (λ i. map (declared_entry (append-nil text i)) (declared (listing_of (e i)))) in
-    listing_from text l t.at (subst Q (sym made.lines_are) (subst P (append-nil text) (r.stands [])))
-    (subst R (sym made.lines_are) r.within) (subst AreDistinct names r.distinct) made.both.0 made.both.1
+    listing_from text l t.at (subst Q (sym made.0) (subst P (append-nil text) (r.stands [])))
+    (subst R (sym made.0) r.within) (subst AreDistinct names r.distinct) both.0 both.1
 
 -- ---- lines that stand are read
 
@@ -402,7 +394,7 @@ leads (tree ∷ trees) s p stop l front here len h stands adds distinct =
 -- the text of a listing is its lines
 pub listing_leads : (text : List ℕ) (l : ListingTree) → IsListing text l → Leads start text l
 listing_leads text l is =
-    let names : declared l ≡ flat_map declares (listing_lines l) = (listing_made l is.has_node is.has_state).names_are in
+    let names : declared l ≡ flat_map declares (listing_lines l) = (grown_all (listing_lines l) fresh (done l) (listing_adds l is.has_node is.has_state)).1 in
     leads (listing_lines l) start (record { at = 0; bytes = text }) is.end l [] refl refl is.within is.in_place
     (listing_adds l is.has_node is.has_state)
     (let P : List Name → Type 0 = λ ns. AreDistinct (map (declared_entry text) ns) in subst P names is.declared_once)

@@ -14,7 +14,7 @@ use Rattle.program_listing.specs.declared.listing_reader.Stage.{Stage}
 use Rattle.program_listing.specs.declared.listing_reader.Stage.TheVariants.{Fresh, Going, Done}
 use Rattle.tsl_terms.specs.declared.names.NameKind.TheVariants.{Signal}
 use Rattle.program_listing.specs.ListingTree.{ListingTree, listing_tree, empty_listing}
-use Rattle.program_listing.specs.LineText.{Place, LineTree, head_line, input, cell, output, window, node, state, end_line}
+use Rattle.program_listing.specs.LineText.{Place, LineTree, head_line, input, cell, output, window, node, state, end_line, node_lines, state_lines}
 use Rattle.program_listing.specs.internal.LineReading.{skipped, read_line}
 
 -- what the lines so far say: there is none, these are the lines after the head, or they end with the last line
@@ -79,6 +79,31 @@ add (done l) line = None
 abbrev pub add_all : List LineTree → Progress → Option Progress
 add_all [] p = Some p
 add_all (line ∷ lines) p = option_and_then (add_all lines) (add p line)
+
+-- the lines of a listing's sections, each with those after it and then these
+abbrev pub from_states : ListingTree → List LineTree → List LineTree
+from_states l tail = state_lines 0 l.states ++ tail
+
+abbrev pub from_nodes : ListingTree → List LineTree → List LineTree
+from_nodes l tail = node_lines 0 l.nodes ++ from_states l tail
+
+abbrev pub from_windows : ListingTree → List LineTree → List LineTree
+from_windows l tail = map window l.windows ++ from_nodes l tail
+
+abbrev pub from_outputs : ListingTree → List LineTree → List LineTree
+from_outputs l tail = map output l.outputs ++ from_windows l tail
+
+abbrev pub from_cells : ListingTree → List LineTree → List LineTree
+from_cells l tail = map cell l.cells ++ from_outputs l tail
+
+-- the lines of what was added, and then these
+abbrev pub lines_with : ListingTree → List LineTree → List LineTree
+lines_with l tail = head_line ∷ (map input l.inputs ++ from_cells l tail)
+
+abbrev pub lines_so_far : Progress → List LineTree
+lines_so_far fresh = []
+lines_so_far (going l) = lines_with l []
+lines_so_far (done l) = lines_with l (end_line ∷ [])
 
 -- the listing so far
 abbrev pub listing_of : Progress → ListingTree
