@@ -33,7 +33,7 @@ use Rattle.program_listing.specs.internal.LineReading.{IsMisread, read_line}
 use Rattle.program_listing.specs.internal.LineOrder.{Progress, fresh, done, add, add_all, listing_of}
 use Rattle.program_listing.specs.internal.LineOrder.{declares, ListingState, start, whole, step, step_at, IsRepeated}
 use Rattle.program_listing.specs.internal.LineOrder.{is_done, entry_in, entries_in, are_new, state_after, if_new, with_line, LiesIn, DeclaresIn}
-use Rattle.program_listing.proofs.LineFeeds.{line_alone, ended_line, line_before_feed}
+use Rattle.program_listing.proofs.LineFeeds.{ended_line, line_before_feed}
 use Rattle.program_listing.proofs.LinesRead.{IsLineAt, line_sound, line_complete}
 use Rattle.program_listing.proofs.ListingFacts.{listing_from}
 use Rattle.program_listing.proofs.OrderOfLines.{after_lines, listing_adds, Grown, grown, grown_all}
@@ -275,7 +275,7 @@ told_more ls s t l r h = subst (Told (ls ++ l ∷ [])) st.is (record {
         ∙ ap (λ (xs : List Piece). flat_map ended_pieces r.trees ++ xs) (append-nil (ended_pieces st.tree))))
         (stand_append (flat_map ended_pieces r.trees) (ended_pieces st.tree) (record { at = 0; bytes = front ++ (l ++ 10 ∷ rest) })
         (record { at = s.at; bytes = l ++ 10 ∷ rest }) (record { at = s.at + (length l + 1); bytes = rest }) (r.stands (l ++ 10 ∷ rest))
-        (line_before_feed st.tree p at.end at.stands at.ends rest)))
+        (line_before_feed st.tree p at rest)))
 
     names : (rest : List ℕ) → s.names ++ entries_in p st.tree
         ≡ map (declared_entry (text_of_lines (ls ++ l ∷ []) ++ rest)) (declared (listing_of st.progress))
@@ -358,7 +358,7 @@ leads (tree ∷ trees) s p stop l front here len h stands adds distinct =
         let line : List ℕ = first.bytes in
         let at : IsLineAt (place_of s line) tree =
         (let P : ℕ → Type 0 = λ n. IsLineAt (record { at = n; bytes = line }) tree in
-        subst P (sym here) (line_alone tree p m both.0 first)) in
+        subst P (sym here) first.alone) in
         let later : List NameEntry = entries_in (place_of s line) tree in
         let T : List ℕ = front ++ p.bytes in
         let tail : List NameEntry = map (declared_entry T) (flat_map declares trees) in
