@@ -8,7 +8,7 @@ use Rattle.std.specs.List.{list_all, AllByRecursion}
 use Rattle.std.specs.Str.{bytes_eq}
 use Rattle.std.proofs.lemmas.Bool.{and_parts, and_from, false≢true}
 use Rattle.std.proofs.lemmas.Grind.{flat_map-append}
-use Rattle.std.proofs.lemmas.List.{append-nil, map-append, drop-append-le, take-append-le, length-drop}
+use Rattle.std.proofs.lemmas.List.{append-nil, length-map, map-append, drop-append-le, take-append-le, length-drop}
 use Rattle.std.proofs.lemmas.List.Quantifiers.{position-Some}
 use Rattle.std.proofs.lemmas.Option.{none-some, same_Some, slice_get_within}
 use Rattle.std.proofs.Math.Seq.{drop-append-add}
@@ -51,24 +51,16 @@ name_in w n p q s =
     (omega (arith, begin), omega (arith, begin, end), omega (arith, end, bytes))
 
 pub declares_in : (p : Place) (t : LineTree) → IsLineAt p t → DeclaresIn p t
-declares_in p head_line l = tt
 declares_in p (input n) l = (name_in (codes "input ") n p l.end l.stands, tt)
 declares_in p (cell n) l = (name_in (codes "cell ") n p l.end l.stands, tt)
 declares_in p (output n) l = (name_in (codes "output ") n p l.end l.stands, tt)
-declares_in p (window w) l = tt
-declares_in p (node i n) l = tt
-declares_in p (state i n) l = tt
-declares_in p end_line l = tt
+declares_in p _ l = tt
 
 pub few_entries : (p : Place) (t : LineTree) → length (entries_in p t) ≤ 1
-few_entries p head_line = omega arith
 few_entries p (input n) = omega arith
 few_entries p (cell n) = omega arith
 few_entries p (output n) = omega arith
-few_entries p (window w) = omega arith
-few_entries p (node i n) = omega arith
-few_entries p (state i n) = omega arith
-few_entries p end_line = omega arith
+few_entries p _ = omega arith
 
 -- a name has the same bytes in its line and in the text
 same_entries : (front line rest : List ℕ) (at : ℕ) → at ≡ length front → (ns : List Name) →
@@ -119,10 +111,6 @@ distinct_more names (e ∷ []) few new h =
     push_distinct names e (is_none_is (number_of names e.text) (and_parts (is_none (number_of names e.text)) true new).0) h
 distinct_more names (e ∷ f ∷ later) few new h = absurd (omega (arith, few))
 
-length_of_texts : (names : List NameEntry) → length (texts names) ≡ length names
-length_of_texts [] = refl
-length_of_texts (n ∷ names) = ap suc (length_of_texts names)
-
 -- where names are distinct, the later ones are new
 all_new : (names later rest : List NameEntry) → length later ≤ 1 → AreDistinct (names ++ (later ++ rest)) → are_new names later ≡ true
 all_new names [] rest few h = refl
@@ -132,7 +120,7 @@ all_new names (e ∷ []) rest few h = by (number_of names e.text) refl where
   by None x = ap (λ (o : Option ℕ). is_none o && true) x
   by (Some i) x =
       let within = (position-Some (bytes_eq e.text) (texts names) i [] x).0 in
-      let entry = slice_get_some names i (omega (arith, within, length_of_texts names)) in
+      let entry = slice_get_some names i (omega (arith, within, length-map names (λ (n : NameEntry). n.text))) in
       let first : first_of names e.text ≡ Some entry.0 =
       sym (named_is names e.text) ∙ ap (option_and_then (slice_get names)) x ∙ entry.1 in
       let found = first_at names e.text entry.0 first in
@@ -206,113 +194,74 @@ repeated s bytes p tree at read NoMemory h = tt
 
 -- ---- what lines say
 
-text_push : (ls : List (List ℕ)) (l : List ℕ) → text_of_lines (ls ++ l ∷ []) ≡ text_of_lines ls ++ (l ++ 10 ∷ [])
-text_push ls l = text_append ls (l ∷ []) ∙ ap (λ (zs : List ℕ). text_of_lines ls ++ zs) (append-nil (l ++ 10 ∷ []))
+-- the lines that are read after those in front, in the text of all
+record Told (ls : List (List ℕ)) (s t : ListingState) (text : List ℕ) : Type 0 where
+  trees : List LineTree
+  adds : add_all trees s.progress ≡ Some t.progress
+  within : list_all line_is_within trees ≡ true
+  stands : Stand (flat_map ended_pieces trees) (record { at = s.at; bytes = text_of_lines ls }) (record { at = t.at; bytes = [] })
+  names : t.names ≡ s.names ++ map (declared_entry text) (flat_map declares trees)
+  distinct : AreDistinct s.names → AreDistinct t.names
 
-front_more : (front l rest : List ℕ) → (front ++ (l ++ 10 ∷ [])) ++ rest ≡ front ++ (l ++ 10 ∷ rest)
-front_more front l rest =
+feed_end : (front l rest : List ℕ) → (front ++ (l ++ 10 ∷ [])) ++ rest ≡ front ++ (l ++ 10 ∷ rest)
+feed_end front l rest =
     append_assoc front (l ++ 10 ∷ []) rest ∙ ap (λ (zs : List ℕ). front ++ zs) (append_assoc l (10 ∷ []) rest)
 
-pub record Told (ls : List (List ℕ)) (s : ListingState) : Type 0 where
-  pub trees : List LineTree
-  pub adds : add_all trees fresh ≡ Some s.progress
-  pub place : s.at ≡ length (text_of_lines ls)
-  pub within : list_all line_is_within trees ≡ true
-  pub stands : (rest : List ℕ) → Stand (flat_map ended_pieces trees) (record { at = 0; bytes = text_of_lines ls ++ rest })
-      (record { at = s.at; bytes = rest })
-  pub names : (rest : List ℕ) → s.names ≡ map (declared_entry (text_of_lines ls ++ rest)) (declared (listing_of s.progress))
-  pub distinct : AreDistinct s.names
+feed_length : (front l : List ℕ) → length (front ++ (l ++ 10 ∷ [])) ≡ length front + (length l + 1)
+feed_length front l = length-append front (l ++ 10 ∷ []) ∙ ap (λ (n : ℕ). length front + n) (length-append l (10 ∷ []))
 
-pub told_start : Told [] start
-told_start = record {
+told : (ls : List (List ℕ)) (s t : ListingState) (front : List ℕ) → s.at ≡ length front → steps step s ls ≡ Some t →
+    Told ls s t (front ++ text_of_lines ls)
+told [] s t front here h = subst (λ (u : ListingState). Told [] s u (front ++ [])) (same_Some s t h) (record {
   trees = [];
   adds = refl;
-  place = refl;
   within = refl;
-  stands = λ rest. refl;
-  names = λ rest. refl;
-  distinct = λ i j m n there. absurd (none-some m there);
-}
-
-pub told_more : (ls : List (List ℕ)) (s t : ListingState) (l : List ℕ) → Told ls s → step s l ≡ Some t → Told (ls ++ l ∷ []) t
-told_more ls s t l r h = subst (Told (ls ++ l ∷ [])) st.is (record {
-  trees = r.trees ++ st.tree ∷ [];
-  adds = after_lines r.trees (st.tree ∷ []) fresh s.progress r.adds ∙ ap (option_and_then (add_all [])) st.added;
-  place =
-      (let len : length (text_of_lines (ls ++ l ∷ [])) ≡ length front + (length l + 1) =
-      ap length (text_push ls l) ∙ length-append front (l ++ 10 ∷ []) ∙ ap (λ (n : ℕ). length front + n) (length-append l (10 ∷ [])) in
-      omega (arith, r.place, len));
-  within = list_all_push line_is_within r.trees st.tree r.within at.within;
-  stands = stands;
-  names = names;
-  distinct = distinct_more s.names (entries_in p st.tree) (few_entries p st.tree) st.new r.distinct;
+  stands = refl;
+  names = sym (append-nil s.names);
+  distinct = λ d. d;
 })
-  where
-    st : Stepped s t l
-    st = stepped s t l h
-
-    p : Place
-    p = place_of s l
-
-    front : List ℕ
-    front = text_of_lines ls
-
-    at : IsLineAt p st.tree
-    at = line_sound p st.tree st.read
-
-    whole_text : (rest : List ℕ) → text_of_lines (ls ++ l ∷ []) ++ rest ≡ front ++ (l ++ 10 ∷ rest)
-    whole_text rest = ap (λ (zs : List ℕ). zs ++ rest) (text_push ls l) ∙ front_more front l rest
-
-    stands : (rest : List ℕ) → Stand (flat_map ended_pieces (r.trees ++ st.tree ∷ []))
-        (record { at = 0; bytes = text_of_lines (ls ++ l ∷ []) ++ rest }) (record { at = s.at + (length l + 1); bytes = rest })
-    stands rest =
-        let P : List ℕ → Type 0 = λ bytes. Stand (flat_map ended_pieces (r.trees ++ st.tree ∷ [])) (record { at = 0; bytes = bytes })
-        (record { at = s.at + (length l + 1); bytes = rest }) in
-        let Q : List Piece → Type 0 = λ xs. Stand xs (record { at = 0; bytes = front ++ (l ++ 10 ∷ rest) })
-        (record { at = s.at + (length l + 1); bytes = rest }) in
-        subst P (sym (whole_text rest))
-        (subst Q (sym (flat_map-append ended_pieces r.trees (st.tree ∷ [])
-        ∙ ap (λ (xs : List Piece). flat_map ended_pieces r.trees ++ xs) (append-nil (ended_pieces st.tree))))
-        (stand_append (flat_map ended_pieces r.trees) (ended_pieces st.tree) (record { at = 0; bytes = front ++ (l ++ 10 ∷ rest) })
-        (record { at = s.at; bytes = l ++ 10 ∷ rest }) (record { at = s.at + (length l + 1); bytes = rest }) (r.stands (l ++ 10 ∷ rest))
-        (line_before_feed st.tree p at rest)))
-
-    names : (rest : List ℕ) → s.names ++ entries_in p st.tree
-        ≡ map (declared_entry (text_of_lines (ls ++ l ∷ []) ++ rest)) (declared (listing_of st.progress))
-    names rest =
-        let T : List ℕ = front ++ (l ++ 10 ∷ rest) in
-        let own = same_entries front l (10 ∷ rest) s.at r.place (declares st.tree) (declares_in p st.tree at) in
-        (λ i. r.names (l ++ 10 ∷ rest) i ++ sym own i)
-        ∙ sym (map-append (declared_entry T) (declared (listing_of s.progress)) (declares st.tree))
-        ∙ (λ i. map (declared_entry (sym (whole_text rest) i)) (sym (grown s.progress st.tree st.progress st.added).names i))
-
-pub told_all : (ls ms : List (List ℕ)) (s t : ListingState) → Told ls s → steps step s ms ≡ Some t → Told (ls ++ ms) t
-told_all ls [] s t r h =
-    let same : s ≡ t = same_Some s t h in
-    let P : List (List ℕ) → Type 0 = λ zs. Told zs t in
-    subst P (sym (append-nil ls)) (subst (Told ls) same r)
-told_all ls (m ∷ ms) s t r h =
-    let found = and_then_some (step s m) (λ u. steps step u ms) t h in
-    let P : List (List ℕ) → Type 0 = λ zs. Told zs t in
-    subst P (append_assoc ls (m ∷ []) ms) (told_all (ls ++ m ∷ []) ms found.0 t (told_more ls s found.0 m r found.1) found.2)
+told (l ∷ ls) s t front here h =
+    let found = and_then_some (step s l) (λ u. steps step u ls) t h in
+    let st = stepped s found.0 l found.1 in
+    let p : Place = place_of s l in
+    let u : ListingState = state_after s p st.tree st.progress in
+    let rest = told ls u t (front ++ (l ++ 10 ∷ [])) (omega (arith, here, feed_length front l))
+    (ap (λ (z : ListingState). steps step z ls) st.is ∙ found.2) in
+    let at : IsLineAt p st.tree = line_sound p st.tree st.read in
+    let own : map (declared_entry (front ++ (l ++ 10 ∷ text_of_lines ls))) (declares st.tree) ≡ entries_in p st.tree =
+    same_entries front l (10 ∷ text_of_lines ls) s.at here (declares st.tree) (declares_in p st.tree at) in
+    let line : (l ++ 10 ∷ []) ++ text_of_lines ls ≡ l ++ 10 ∷ text_of_lines ls = append_assoc l (10 ∷ []) (text_of_lines ls) in
+    let text : List ℕ = front ++ text_of_lines (l ∷ ls) in
+    let same : (front ++ (l ++ 10 ∷ [])) ++ text_of_lines ls ≡ text = append_assoc front (l ++ 10 ∷ []) (text_of_lines ls) in
+    record {
+      trees = st.tree ∷ rest.trees;
+      adds = ap (option_and_then (add_all rest.trees)) st.added ∙ rest.adds;
+      within = and_from (line_is_within st.tree) (list_all line_is_within rest.trees) at.within rest.within;
+      stands = stand_append (ended_pieces st.tree) (flat_map ended_pieces rest.trees) _ (record { at = u.at; bytes = text_of_lines ls }) _
+          (subst (λ (zs : List ℕ). Stand (ended_pieces st.tree) (record { at = s.at; bytes = zs })
+          (record { at = u.at; bytes = text_of_lines ls })) (sym line) (line_before_feed st.tree p at (text_of_lines ls))) rest.stands;
+      names = rest.names ∙ append_assoc s.names (entries_in p st.tree) _
+          ∙ (λ i. s.names ++ (sym (ap (λ (zs : List ℕ). map (declared_entry (front ++ zs)) (declares st.tree)) line ∙ own) i
+          ++ map (declared_entry (same i)) (flat_map declares rest.trees)))
+          ∙ ap (λ (es : List NameEntry). s.names ++ es)
+          (sym (map-append (declared_entry text) (declares st.tree) (flat_map declares rest.trees)));
+      distinct = λ d. rest.distinct (distinct_more s.names (entries_in p st.tree) (few_entries p st.tree) st.new d);
+    }
 
 -- lines that end with the last one are the text of a listing
 pub listing_of_lines : (ls : List (List ℕ)) (t : ListingState) (l : ListingTree) → steps step start ls ≡ Some t → t.progress ≡ done l →
     IsListing (text_of_lines ls) l
 listing_of_lines ls t l says e =
-    let r = told_all [] ls start t told_start says in
     let text : List ℕ = text_of_lines ls in
-    let made = grown_all r.trees fresh (done l) (r.adds ∙ ap Some e) in
-    let both = made.2 tt in
-    let P : List ℕ → Type 0 = λ bytes. Stand (flat_map ended_pieces r.trees) (record { at = 0; bytes = bytes })
-    (record { at = t.at; bytes = [] }) in
-    let Q : List LineTree → Type 0 = λ ts. Stand (flat_map ended_pieces ts) (record { at = 0; bytes = text })
-    (record { at = t.at; bytes = [] }) in
-    let R : List LineTree → Type 0 = λ ts. list_all line_is_within ts ≡ true in
-    let names : t.names ≡ map (declared_entry text) (declared l) =
-    r.names [] ∙ (λ i. map (declared_entry (append-nil text i)) (declared (listing_of (e i)))) in
-    listing_from text l t.at (subst Q (sym made.0) (subst P (append-nil text) (r.stands [])))
-    (subst R (sym made.0) r.within) (subst AreDistinct names r.distinct) both.0 both.1
+    let r = told ls start t [] refl says in
+    let all = grown_all r.trees fresh (done l) (r.adds ∙ ap Some e) in
+    let both = all.2 tt in
+    let names : t.names ≡ map (declared_entry text) (declared l) = r.names ∙ ap (map (declared_entry text)) (sym all.1) in
+    listing_from text l t.at
+    (subst (λ (ts : List LineTree). Stand (flat_map ended_pieces ts) (record { at = 0; bytes = text }) (record { at = t.at; bytes = [] }))
+    (sym all.0) r.stands)
+    (subst (λ (ts : List LineTree). list_all line_is_within ts ≡ true) (sym all.0) r.within)
+    (subst AreDistinct names (r.distinct (λ i j m n there. absurd (none-some m there)))) both.0 both.1
 
 -- ---- lines that stand are read
 
@@ -337,59 +286,38 @@ leads [] s p stop l front here len h stands adds distinct = record {
   done = same_Some s.progress (done l) adds;
 }
 leads (tree ∷ trees) s p stop l front here len h stands adds distinct =
-    by (add s.progress tree) refl adds (λ t front' e n k d. leads trees t m stop l front' e n both.1 parts.2 k d)
-  where
-    parts : (m : Place) × Stand (ended_pieces tree) p m × Stand (flat_map ended_pieces trees) m (record { at = stop; bytes = [] })
-    parts = stand_split (ended_pieces tree) (flat_map ended_pieces trees) p (record { at = stop; bytes = [] }) stands
-
-    m : Place
-    m = parts.0
-
-    both : (line_is_within tree ≡ true) × (list_all line_is_within trees ≡ true)
-    both = and_parts (line_is_within tree) (list_all line_is_within trees) h
-
-    by : (o : Option Progress) → add s.progress tree ≡ o → option_and_then (add_all trees) o ≡ Some (done l) →
-        ((t : ListingState) (front' : List ℕ) → t.at ≡ m.at → m.at ≡ length front' → add_all trees t.progress ≡ Some (done l) →
-        AreDistinct (t.names ++ map (declared_entry (front' ++ m.bytes)) (flat_map declares trees)) → Leads t m.bytes l) →
-        Leads s p.bytes l
-    by None e k others = absurd (none-some (done l) k)
-    by (Some q) e k others =
-        let first = ended_line tree p m both.0 parts.1 in
-        let line : List ℕ = first.bytes in
-        let at : IsLineAt (place_of s line) tree =
-        (let P : ℕ → Type 0 = λ n. IsLineAt (record { at = n; bytes = line }) tree in
-        subst P (sym here) first.alone) in
-        let later : List NameEntry = entries_in (place_of s line) tree in
-        let T : List ℕ = front ++ p.bytes in
-        let tail : List NameEntry = map (declared_entry T) (flat_map declares trees) in
-        let whole : T ≡ front ++ (line ++ 10 ∷ m.bytes) = ap (λ (zs : List ℕ). front ++ zs) first.split in
-        let own : map (declared_entry T) (declares tree) ≡ later =
-        ap (λ (zs : List ℕ). map (declared_entry zs) (declares tree)) whole
-        ∙ same_entries front line (10 ∷ m.bytes) s.at (here ∙ len) (declares tree) (declares_in (place_of s line) tree at) in
-        let names : map (declared_entry T) (declares tree ++ flat_map declares trees) ≡ later ++ tail =
-        map-append (declared_entry T) (declares tree) (flat_map declares trees) ∙ ap (λ (es : List NameEntry). es ++ tail) own in
-        let P : List NameEntry → Type 0 = λ es. AreDistinct (s.names ++ es) in
-        let good : AreDistinct (s.names ++ (later ++ tail)) = subst P names distinct in
-        let new = all_new s.names later tail (few_entries (place_of s line) tree) good in
-        let t : ListingState = state_after s (place_of s line) tree q in
-        let front' : List ℕ = front ++ (line ++ 10 ∷ []) in
-        let next : m.at ≡ p.at + (length line + 1) = first.end in
-        let size : length front' ≡ length front + (length line + 1) =
-        length-append front (line ++ 10 ∷ []) ∙ ap (λ (n : ℕ). length front + n) (length-append line (10 ∷ [])) in
-        let rest_text : front' ++ m.bytes ≡ T = front_more front line m.bytes ∙ sym whole in
-        let Q : List ℕ → Type 0 = λ zs. AreDistinct ((s.names ++ later) ++ map (declared_entry zs) (flat_map declares trees)) in
-        let rest = others t front' (omega (arith, here, next)) (omega (arith, len, next, size)) k
-        (subst Q (sym rest_text) (subst AreDistinct (sym (append_assoc s.names later tail)) good)) in
-        record {
-          lines = line ∷ rest.lines;
-          end = rest.end;
-          split =
-              first.split ∙ ap (λ (zs : List ℕ). line ++ 10 ∷ zs) rest.split ∙ sym (append_assoc line (10 ∷ []) (text_of_lines rest.lines));
-          are_lines = and_from (is_line line) (list_all is_line rest.lines) first.is_line rest.are_lines;
-          says = ap (option_and_then (λ u. steps step u rest.lines)) (step_is s line tree q (line_complete (place_of s line) tree at) new e)
-              ∙ rest.says;
-          done = rest.done;
-        }
+    let parts = stand_split (ended_pieces tree) (flat_map ended_pieces trees) p (record { at = stop; bytes = [] }) stands in
+    let m : Place = parts.0 in
+    let both = and_parts (line_is_within tree) (list_all line_is_within trees) h in
+    let found = and_then_some (add s.progress tree) (add_all trees) (done l) adds in
+    let first = ended_line tree p m both.0 parts.1 in
+    let line : List ℕ = first.bytes in
+    let at : IsLineAt (place_of s line) tree = subst (λ (n : ℕ). IsLineAt (record { at = n; bytes = line }) tree) (sym here) first.alone in
+    let later : List NameEntry = entries_in (place_of s line) tree in
+    let text : List ℕ = front ++ p.bytes in
+    let tail : List NameEntry = map (declared_entry text) (flat_map declares trees) in
+    let whole : text ≡ front ++ (line ++ 10 ∷ m.bytes) = ap (λ (zs : List ℕ). front ++ zs) first.split in
+    let own : map (declared_entry text) (declares tree) ≡ later =
+    ap (λ (zs : List ℕ). map (declared_entry zs) (declares tree)) whole
+    ∙ same_entries front line (10 ∷ m.bytes) s.at (here ∙ len) (declares tree) (declares_in (place_of s line) tree at) in
+    let good : AreDistinct (s.names ++ (later ++ tail)) =
+    subst (λ (es : List NameEntry). AreDistinct (s.names ++ es))
+    (map-append (declared_entry text) (declares tree) (flat_map declares trees) ∙ ap (λ (es : List NameEntry). es ++ tail) own) distinct in
+    let new = all_new s.names later tail (few_entries (place_of s line) tree) good in
+    let t : ListingState = state_after s (place_of s line) tree found.0 in
+    let rest = leads trees t m stop l (front ++ (line ++ 10 ∷ [])) (omega (arith, here, first.end))
+    (omega (arith, len, first.end, feed_length front line)) both.1 parts.2 found.2
+    (subst (λ (zs : List ℕ). AreDistinct ((s.names ++ later) ++ map (declared_entry zs) (flat_map declares trees)))
+    (sym (feed_end front line m.bytes ∙ sym whole)) (subst AreDistinct (sym (append_assoc s.names later tail)) good)) in
+    record {
+      lines = line ∷ rest.lines;
+      end = rest.end;
+      split = first.split ∙ ap (λ (zs : List ℕ). line ++ 10 ∷ zs) rest.split ∙ sym (append_assoc line (10 ∷ []) (text_of_lines rest.lines));
+      are_lines = and_from (is_line line) (list_all is_line rest.lines) first.is_line rest.are_lines;
+      says = ap (option_and_then (λ u. steps step u rest.lines)) (step_is s line tree found.0 (line_complete (place_of s line) tree at) new
+          found.1) ∙ rest.says;
+      done = rest.done;
+    }
 
 -- the text of a listing is its lines
 pub listing_leads : (text : List ℕ) (l : ListingTree) → IsListing text l → Leads start text l
