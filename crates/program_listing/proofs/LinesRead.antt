@@ -15,14 +15,13 @@ use Rattle.program_listing.specs.LineText.{state, end_line, update_pieces, set_p
 use Rattle.program_listing.specs.LineText.{left_pieces, window_pieces}
 use Rattle.program_listing.specs.LineText.{node_pieces, line_pieces, is_short, is_shallow, listed_is_within, placed_is_within}
 use Rattle.program_listing.specs.LineText.{left_is_within, window_is_within, node_is_within, line_is_within}
-use Rattle.program_listing.specs.internal.LineReading.{past, mapped, nothing, closed, either, repeat, value_at_end, begins, update, is_square}
+use Rattle.program_listing.specs.internal.LineReading.{Shrinks, past, mapped, nothing, closed, either, repeat, value_at_end, begins, update, is_square}
 use Rattle.program_listing.specs.internal.LineReading.{update_follows, as_update, set_update, as_listed, listed, listed_follows, as_placed, placed}
 use Rattle.program_listing.specs.internal.LineReading.{equated, left_side, as_window, window_rest, as_branch, branch_parts, as_assignment}
 use Rattle.program_listing.specs.internal.LineReading.{assignment_parts, node_rest, as_node, as_state, numbered_node, numbered_state, line}
 use Rattle.program_listing.specs.internal.LineReading.{read_line}
 use Rattle.program_listing.proofs.Strips.{past_none}
 use Rattle.program_listing.proofs.Standing.{stand_split}
-use Rattle.program_listing.proofs.Repeats.{Shrinks}
 use Rattle.program_listing.proofs.Exactly.{ReadAt, Reads, Any, if_mapped, at_front, nothing_reads, prefixed_reads, closed_reads, mapped_reads}
 use Rattle.program_listing.proofs.Exactly.{either_sound, shrinks, pair_reads, repeat_reads}
 use Rattle.program_listing.proofs.Numbers.{FirstDigit, first_digit}

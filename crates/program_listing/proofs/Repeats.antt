@@ -3,13 +3,9 @@ use Rattle.std.proofs.Common.{◌≡◌, ℕ, zero, suc, ◌<◌, Bool, true, fa
 use Rattle.std.proofs.Common.{◌∙◌, append_assoc, arith, map, option_map, sym}
 use Rattle.std.proofs.lemmas.List.{append-nil, map-append}
 use Rattle.program_listing.specs.LineText.{Place}
-use Rattle.program_listing.specs.internal.LineReading.{LineReader, with_first, go_on, repeat_most, repeat}
+use Rattle.program_listing.specs.internal.LineReading.{LineReader, Shrinks, with_first, go_on, repeat_most, repeat}
 
 module _ {A : Type 0} where
-  -- each value that is read takes a byte at least
-  abbrev pub Shrinks : LineReader A → Type 0
-  Shrinks reader = (p : Place) (a : A) (q : Place) → reader p ≡ Some (a, q) → length q.bytes < length p.bytes
-
   module _ (test : List ℕ → Bool) (reader : LineReader A) (shrinks : Shrinks reader) where
     -- more steps than bytes are enough
     enough : (m n : ℕ) (p : Place) → length p.bytes < m → length p.bytes < n →

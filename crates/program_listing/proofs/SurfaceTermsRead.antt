@@ -15,14 +15,13 @@ use Rattle.program_listing.specs.declared.listing.Name.{Name}
 use Rattle.program_listing.specs.ListingTree.{SurfaceTermTree, bare, applied, SurfaceTermTrees, no_surfaces, more_surfaces}
 use Rattle.program_listing.specs.LineText.{Piece, word, named, Place, Stand, argument_pieces, applied_pieces, surface_pieces, surfaces_pieces}
 use Rattle.program_listing.specs.LineText.{bracketed_surface, surface_brackets, surfaces_brackets, is_shallow}
-use Rattle.program_listing.specs.internal.LineReading.{LineReader, past, mapped, nothing, either, begins, surfaces_of, is_open}
+use Rattle.program_listing.specs.internal.LineReading.{LineReader, Shrinks, past, mapped, nothing, either, begins, surfaces_of, is_open}
 use Rattle.program_listing.specs.internal.LineReading.{number_follows, argument_begins, argument_follows, tail_of, with_tail, tail, surface_by}
 use Rattle.program_listing.specs.internal.LineReading.{short, argument_surface, spaced_argument, arguments, surface_with, has_arguments}
 use Rattle.program_listing.specs.internal.LineReading.{if_applied, only_applied, surface_in_brackets, surface}
 use Rattle.program_listing.specs.internal.LineOrder.{is_nil}
 use Rattle.tsl_terms.specs.WellFormed.{deepest}
 use Rattle.program_listing.proofs.Strips.{past_none}
-use Rattle.program_listing.proofs.Repeats.{Shrinks}
 use Rattle.program_listing.proofs.Exactly.{ReadAt, Reads, Any, if_mapped, if_then, at_front, nothing_reads, prefixed_reads, closed_reads}
 use Rattle.program_listing.proofs.Exactly.{restated, mapped_reads, either_sound, pair_reads, repeat_reads, shrinks}
 use Rattle.program_listing.proofs.WordsRead.{NoLetter, prefix_len_run, usable_run, name_reads}

@@ -11,6 +11,7 @@ ghost use Rattle.program_listing.specs.internal.LineReading.{window_rest, branch
 use crate::listing::{
     Name, SpelledListed, SpelledNode, SpelledPlaced, SpelledUpdate, SpelledWindow, SurfaceTerm,
 };
+use crate::repeated::{Part, repeated};
 use crate::rest::{LineError, Reading, Rest};
 use crate::surfaces::surface;
 use crate::words::{expect, first_name, first_number, past};
@@ -93,22 +94,6 @@ fn set_update(alloc: Global, left: Rest<'_>) -> Reading<'_, SpelledUpdate>
     Ok((SpelledUpdate { signal, term }, rest))
 }
 
-/// The updates of an assignment, which may be none.
-fn set_updates(alloc: Global, left: Rest<'_>) -> Reading<'_, Vec<SpelledUpdate>>
-    ensures ok { IfOk result
-        (IsReadAs (λ us. map update_line us.items) (repeat update_follows set_update) left.entry) }
-    ensures wrong { IfErr result (IsUnread (repeat update_follows set_update) left.entry) }
-{
-    let mut found = Vec::new(alloc);
-    let mut rest = left;
-    while update_follows(rest.bytes) {
-        let (update, later) = set_update(alloc, rest)?;
-        found.push(update)?;
-        rest = later;
-    }
-    Ok((found, rest))
-}
-
 /// An update that a window lists.
 fn listed(alloc: Global, left: Rest<'_>) -> Reading<'_, SpelledListed>
     ensures ok { IfOk result (IsReadAs listed_line listed left.entry) }
@@ -132,22 +117,6 @@ fn listed_follows(bytes: &[u8]) -> bool
     ensures { result ≡ listed_follows bytes.now }
 {
     bytes.strip_prefix(b" when [").is_some()
-}
-
-/// The updates that a window lists, which may be none.
-fn listed_updates(alloc: Global, left: Rest<'_>) -> Reading<'_, Vec<SpelledListed>>
-    ensures ok { IfOk result
-        (IsReadAs (λ us. map listed_line us.items) (repeat listed_follows listed) left.entry) }
-    ensures wrong { IfErr result (IsUnread (repeat listed_follows listed) left.entry) }
-{
-    let mut found = Vec::new(alloc);
-    let mut rest = left;
-    while listed_follows(rest.bytes) {
-        let (update, later) = listed(alloc, rest)?;
-        found.push(update)?;
-        rest = later;
-    }
-    Ok((found, rest))
 }
 
 /// Whether there is a byte.
@@ -176,20 +145,69 @@ fn equated(alloc: Global, left: Rest<'_>) -> Reading<'_, SpelledPlaced>
     placed(alloc, rest)
 }
 
-/// The equalities that a window lists, to the end of its line.
-fn listed_equalities(alloc: Global, left: Rest<'_>) -> Reading<'_, Vec<SpelledPlaced>>
-    ensures ok { IfOk result
-        (IsReadAs (λ es. map placed_line es.items) (repeat has_bytes equated) left.entry) }
-    ensures wrong { IfErr result (IsUnread (repeat has_bytes equated) left.entry) }
-{
-    let mut found = Vec::new(alloc);
-    let mut rest = left;
-    while has_bytes(rest.bytes) {
-        let (equality, later) = equated(alloc, rest)?;
-        found.push(equality)?;
-        rest = later;
+impl Part for SpelledUpdate {
+    ghost use Rattle.program_listing.specs.ListingTree.{UpdateLine, update_line};
+    ghost use Rattle.program_listing.specs.internal.LineReading.{update_follows, set_update};
+
+    ghost Tree = { UpdateLine };
+
+    ghost tree = { update_line };
+
+    ghost stands = { update_follows };
+
+    ghost reader = { set_update };
+
+    fn stands(bytes: &[u8]) -> bool {
+        update_follows(bytes)
     }
-    Ok((found, rest))
+
+    fn read(alloc: Global, left: Rest<'_>) -> Reading<'_, SpelledUpdate> {
+        set_update(alloc, left)
+    }
+}
+
+impl Part for SpelledListed {
+    ghost use Rattle.program_listing.specs.ListingTree.{ListedLine, listed_line};
+    ghost use Rattle.program_listing.specs.internal.LineReading.{listed_follows, listed};
+
+    ghost Tree = { ListedLine };
+
+    ghost tree = { listed_line };
+
+    ghost stands = { listed_follows };
+
+    ghost reader = { listed };
+
+    fn stands(bytes: &[u8]) -> bool {
+        listed_follows(bytes)
+    }
+
+    fn read(alloc: Global, left: Rest<'_>) -> Reading<'_, SpelledListed> {
+        listed(alloc, left)
+    }
+}
+
+/// Equalities are listed to the end of a line.
+impl Part for SpelledPlaced {
+    ghost use Rattle.tsl_text.specs.Lines.{has_bytes};
+    ghost use Rattle.program_listing.specs.ListingTree.{PlacedLine, placed_line};
+    ghost use Rattle.program_listing.specs.internal.LineReading.{equated};
+
+    ghost Tree = { PlacedLine };
+
+    ghost tree = { placed_line };
+
+    ghost stands = { has_bytes };
+
+    ghost reader = { equated };
+
+    fn stands(bytes: &[u8]) -> bool {
+        has_bytes(bytes)
+    }
+
+    fn read(alloc: Global, left: Rest<'_>) -> Reading<'_, SpelledPlaced> {
+        equated(alloc, left)
+    }
 }
 
 /// What stands before a window's right test: `true`, or the left test and its step.
@@ -212,8 +230,8 @@ fn window(alloc: Global, left: Rest<'_>) -> Reading<'_, SpelledWindow>
 {
     let (left_test, rest) = left_side(alloc, left)?;
     let (right, rest) = placed(alloc, rest)?;
-    let (updates, rest) = listed_updates(alloc, rest)?;
-    let (equalities, rest) = listed_equalities(alloc, rest)?;
+    let (updates, rest) = repeated::<SpelledListed>(alloc, rest)?;
+    let (equalities, rest) = repeated::<SpelledPlaced>(alloc, rest)?;
     Ok((
         SpelledWindow {
             left: left_test,
@@ -248,7 +266,7 @@ fn assignment(alloc: Global, left: Rest<'_>) -> Reading<'_, SpelledNode>
     ensures ok { IfOk result (IsReadAs node_line assignment_rest left.entry) }
     ensures wrong { IfErr result (IsUnread assignment_rest left.entry) }
 {
-    let (updates, rest) = set_updates(alloc, left)?;
+    let (updates, rest) = repeated::<SpelledUpdate>(alloc, left)?;
     let (go, rest) = number_after(rest, b" go ")?;
     Ok((SpelledNode::Assignment { updates, go }, rest))
 }

@@ -6,6 +6,7 @@ use Rattle.std.specs.Prelude.{
   zero,
   suc,
   ◌+◌,
+  ◌<◌,
   Bool,
   true,
   false,
@@ -101,6 +102,10 @@ module _ {A B : Type 0} where
   pair first second p = option_and_then (and_next second) (first p)
 
 module _ {A : Type 0} where
+  -- each value that is read takes a byte at least
+  abbrev pub Shrinks : LineReader A → Type 0
+  Shrinks reader = (p : Place) (a : A) (q : Place) → reader p ≡ Some (a, q) → length q.bytes < length p.bytes
+
   -- after these bytes
   abbrev pub prefixed : List ℕ → LineReader A → LineReader A
   prefixed w reader p = option_and_then reader (past w p)
