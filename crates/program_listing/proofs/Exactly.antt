@@ -1,9 +1,9 @@
 -- When a reader reads exactly what pieces spell, and how readers made of others keep this.
-use Rattle.std.proofs.Common.{◌≡◌, ℕ, zero, suc, ◌+◌, ◌<◌, ◌≤◌, Bool, true, false, ◌&&◌, cond, List, [], ◌∷◌, ◌++◌, length, length-append}
+use Rattle.std.proofs.Common.{◌≡◌, ℕ, zero, suc, ◌+◌, ◌≤◌, Bool, true, false, ◌&&◌, cond, List, [], ◌∷◌, ◌++◌, length, length-append}
 use Rattle.std.proofs.Common.{flat_map, Option, Some, None, option_map, option_and_then, IfSome, IsTrue, refl, sym, ap, subst, ◌∙◌, arith}
 use Rattle.std.specs.List.{list_all}
 use Rattle.std.proofs.lemmas.Bool.{and_parts, and_from}
-use Rattle.std.proofs.lemmas.Option.{none-some, IfSome_then}
+use Rattle.std.proofs.lemmas.Option.{IfSome_then}
 use Rattle.program_listing.specs.LineText.{Piece, word, Place, Stand}
 use Rattle.program_listing.specs.internal.LineReading.{LineReader, Shrinks, past, mapped, and_next, pair, prefixed, and_past, closed, nothing, either}
 use Rattle.program_listing.specs.internal.LineReading.{with_first, go_on, repeat_most, repeat}

@@ -1,5 +1,5 @@
 -- A line has no line feed within it, and is read alike whatever follows it.
-use Rattle.std.proofs.Common.{◌≡◌, ℕ, zero, suc, ◌+◌, ◌/◌, ◌%◌, Bool, true, false, not, ◌&&◌, cond, eqb, ltb, List, [], ◌∷◌, ◌++◌, length}
+use Rattle.std.proofs.Common.{◌≡◌, ℕ, zero, suc, ◌+◌, ◌/◌, ◌%◌, Bool, true, false, not, cond, eqb, ltb, List, [], ◌∷◌, ◌++◌, length}
 use Rattle.std.proofs.Common.{length-append, flat_map, codes, decimal, Option, Some, None, IsTrue, refl, sym, ap, subst, ◌∙◌}
 use Rattle.std.proofs.Common.{append_assoc, arith}
 use Rattle.std.specs.Fmt.{digits, digits_onto, digit_glyph}
@@ -12,7 +12,7 @@ use Rattle.tsl_text.specs.Lines.{is_line_byte}
 use Rattle.tsl_text.specs.Names.{is_name_byte, is_usable}
 use Rattle.tsl_text.specs.Written.{is_line}
 use Rattle.program_listing.specs.declared.listing.Name.{Name}
-use Rattle.program_listing.specs.ListingTree.{SurfaceTermTree, bare, applied, SurfaceTermTrees, no_surfaces, more_surfaces, UpdateLine, ListedLine}
+use Rattle.program_listing.specs.ListingTree.{SurfaceTermTree, bare, applied, SurfaceTermTrees, no_surfaces, more_surfaces}
 use Rattle.program_listing.specs.ListingTree.{PlacedLine, branch_line, assignment_line}
 use Rattle.program_listing.specs.LineText.{Piece, word, named, Place, Stand, argument_pieces, surface_pieces, surfaces_pieces, LineTree, window}
 use Rattle.program_listing.specs.LineText.{node, state, update_pieces, set_pieces, listed_pieces, placed_pieces, equated_pieces, left_pieces}

@@ -15,7 +15,7 @@ use Rattle.program_listing.specs.LineText.{state, end_line, update_pieces, set_p
 use Rattle.program_listing.specs.LineText.{left_pieces, window_pieces}
 use Rattle.program_listing.specs.LineText.{node_pieces, line_pieces, is_short, is_shallow, listed_is_within, placed_is_within}
 use Rattle.program_listing.specs.LineText.{left_is_within, window_is_within, node_is_within, line_is_within}
-use Rattle.program_listing.specs.internal.LineReading.{Shrinks, past, mapped, nothing, closed, either, repeat, value_at_end, begins, update, is_square}
+use Rattle.program_listing.specs.internal.LineReading.{Shrinks, mapped, nothing, closed, either, value_at_end, begins, update, is_square}
 use Rattle.program_listing.specs.internal.LineReading.{update_follows, as_update, set_update, as_listed, listed, listed_follows, as_placed, placed}
 use Rattle.program_listing.specs.internal.LineReading.{equated, left_side, as_window, window_rest, as_branch, branch_parts, as_assignment}
 use Rattle.program_listing.specs.internal.LineReading.{assignment_parts, node_rest, as_node, as_state, numbered_node, numbered_state, line}

@@ -1,6 +1,6 @@
 -- What a text says whose lines stand in it.
 use Rattle.std.proofs.Common.{◌≡◌, ℕ, suc, ◌+◌, ◌-◌, ◌<◌, Bool, true, ◌&&◌, leb, List, [], ◌∷◌, ◌++◌, length, length-append, take, drop}
-use Rattle.std.proofs.Common.{map, flat_map, codes, decimal, Option, Some, None, IsTrue, refl, sym, ap, ◌∙◌, append_assoc, arith}
+use Rattle.std.proofs.Common.{map, flat_map, codes, Option, Some, None, IsTrue, refl, sym, ap, ◌∙◌, append_assoc, arith}
 use Rattle.std.specs.List.{list_all}
 use Rattle.std.proofs.Math.Bool.{and-true}
 use Rattle.std.proofs.Math.Seq.{take-append_seam, drop-append_seam}
@@ -14,7 +14,7 @@ use Rattle.program_listing.specs.ListingTree.{SurfaceTermTree, bare, applied, Su
 use Rattle.program_listing.specs.ListingTree.{PlacedLine, WindowLine, NodeLine, branch_line, assignment_line, ListingTree}
 use Rattle.program_listing.specs.LineText.{Piece, word, named, Place, Stand, argument_pieces, surface_pieces, surfaces_pieces, LineTree, input}
 use Rattle.program_listing.specs.LineText.{cell, output, window, node, end_line, update_pieces, set_pieces, listed_pieces, placed_pieces}
-use Rattle.program_listing.specs.LineText.{equated_pieces, left_pieces, window_pieces, node_pieces, line_pieces, ended_pieces, is_shallow}
+use Rattle.program_listing.specs.LineText.{equated_pieces, left_pieces, window_pieces, node_pieces, ended_pieces, is_shallow}
 use Rattle.program_listing.specs.LineText.{is_short, listed_is_within, placed_is_within, left_is_within, window_is_within, node_is_within}
 use Rattle.program_listing.specs.LineText.{line_is_within, node_lines, listing_lines}
 use Rattle.program_listing.specs.Listing.{name_bytes, declared_entry, declared, IsListing}

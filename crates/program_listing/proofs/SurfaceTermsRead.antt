@@ -15,7 +15,7 @@ use Rattle.program_listing.specs.declared.listing.Name.{Name}
 use Rattle.program_listing.specs.ListingTree.{SurfaceTermTree, bare, applied, SurfaceTermTrees, no_surfaces, more_surfaces}
 use Rattle.program_listing.specs.LineText.{Piece, word, named, Place, Stand, argument_pieces, applied_pieces, surface_pieces, surfaces_pieces}
 use Rattle.program_listing.specs.LineText.{bracketed_surface, surface_brackets, surfaces_brackets, is_shallow}
-use Rattle.program_listing.specs.internal.LineReading.{LineReader, Shrinks, past, mapped, nothing, either, begins, surfaces_of, is_open}
+use Rattle.program_listing.specs.internal.LineReading.{LineReader, Shrinks, mapped, nothing, either, begins, surfaces_of, is_open}
 use Rattle.program_listing.specs.internal.LineReading.{number_follows, argument_begins, argument_follows, tail_of, with_tail, tail, surface_by}
 use Rattle.program_listing.specs.internal.LineReading.{short, argument_surface, spaced_argument, arguments, surface_with, has_arguments}
 use Rattle.program_listing.specs.internal.LineReading.{if_applied, only_applied, surface_in_brackets, surface}

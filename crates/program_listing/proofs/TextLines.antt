@@ -1,5 +1,5 @@
 -- The lines of a text lead to a listing exactly where it is that of the text.
-use Rattle.std.proofs.Common.{◌≡◌, ℕ, suc, ◌+◌, ◌-◌, ◌<◌, ◌≤◌, Bool, true, false, ◌&&◌, List, [], ◌∷◌, ◌++◌, length, length-append, take}
+use Rattle.std.proofs.Common.{◌≡◌, ℕ, ◌+◌, ◌-◌, ◌<◌, ◌≤◌, Bool, true, false, ◌&&◌, List, [], ◌∷◌, ◌++◌, length, length-append, take}
 use Rattle.std.proofs.Common.{drop}
 use Rattle.std.proofs.Common.{map, flat_map, codes, Option, Some, None, ◌⊎◌, inl, inr, slice_get, refl, sym, ap, subst, ◌∙◌, append_assoc}
 use Rattle.std.proofs.Common.{arith}
@@ -7,13 +7,11 @@ use Rattle.std.specs.Prelude.{is_none, is_some, option_and_then, cond}
 use Rattle.std.specs.List.{list_all, AllByRecursion}
 use Rattle.std.specs.Str.{bytes_eq}
 use Rattle.std.proofs.lemmas.Bool.{and_parts, and_from, false≢true}
-use Rattle.std.proofs.lemmas.Grind.{flat_map-append}
 use Rattle.std.proofs.lemmas.List.{append-nil, length-map, map-append, drop-append-le, take-append-le, length-drop}
 use Rattle.std.proofs.lemmas.List.Quantifiers.{position-Some}
 use Rattle.std.proofs.lemmas.Option.{none-some, same_Some, slice_get_within}
 use Rattle.std.proofs.Math.Seq.{drop-append-add}
 use Rattle.sequence.proofs.Options.{is_none_is}
-use Rattle.sequence.proofs.Passes.{list_all_push}
 use Rattle.sequence.proofs.Places.{slice_get_push, slice_get_some, slice_get-front, slice_get-behind}
 use Rattle.tsl_text.specs.Written.{is_line, text_of_lines}
 use Rattle.tsl_terms.specs.declared.names.NameKind.TheVariants.{Signal}
@@ -21,22 +19,21 @@ use Rattle.tsl_terms.specs.Name.{AreDistinct, number_of, texts, Name as NameEntr
 use Rattle.tsl_terms.proofs.FirstUses.{first_of, first_some, not_found, named_is, first_at}
 use Rattle.line_formats.specs.Machine.{steps, IsText}
 use Rattle.line_formats.proofs.FormatLaws.{and_then_some}
-use Rattle.line_formats.proofs.MachineLaws.{text_append}
 use Rattle.program_listing.specs.declared.listing.Name.{Name}
 use Rattle.program_listing.specs.Listing.{declared_entry, declared, IsListing}
 use Rattle.program_listing.specs.ListingTree.{ListingTree}
-use Rattle.program_listing.specs.LineText.{Piece, word, named, Place, Stand, LineTree, head_line, input, cell, output, window, node, state}
-use Rattle.program_listing.specs.LineText.{end_line, ended_pieces, line_is_within, listing_lines}
+use Rattle.program_listing.specs.LineText.{word, named, Place, Stand, LineTree, input, cell, output}
+use Rattle.program_listing.specs.LineText.{ended_pieces, line_is_within, listing_lines}
 use Rattle.program_listing.specs.declared.rest.LineError.{LineError}
 use Rattle.program_listing.specs.declared.rest.LineError.TheVariants.{Form, NoMemory}
 use Rattle.program_listing.specs.internal.LineReading.{IsMisread, read_line}
-use Rattle.program_listing.specs.internal.LineOrder.{Progress, fresh, done, add, add_all, listing_of}
+use Rattle.program_listing.specs.internal.LineOrder.{Progress, fresh, done, add, add_all}
 use Rattle.program_listing.specs.internal.LineOrder.{declares, ListingState, start, whole, step, step_at, IsRepeated}
 use Rattle.program_listing.specs.internal.LineOrder.{is_done, entry_in, entries_in, are_new, state_after, if_new, with_line, LiesIn, DeclaresIn}
 use Rattle.program_listing.proofs.LineFeeds.{ended_line, line_before_feed}
 use Rattle.program_listing.proofs.LinesRead.{IsLineAt, line_sound, line_complete}
 use Rattle.program_listing.proofs.ListingFacts.{listing_from}
-use Rattle.program_listing.proofs.OrderOfLines.{after_lines, listing_adds, Grown, grown, grown_all}
+use Rattle.program_listing.proofs.OrderOfLines.{listing_adds, grown_all}
 use Rattle.program_listing.proofs.Standing.{stand_append, stand_split}
 
 -- ---- the name that a line declares

@@ -1,6 +1,6 @@
 -- Names and numbers are read exactly.
 use Rattle.std.proofs.Common.{◌≡◌, ℕ, ◌+◌, ◌^◌, ◌<◌, Bool, true, false, not, cond, List, [], ◌∷◌, ◌++◌, length, take}
-use Rattle.std.proofs.Common.{drop, take-append-drop, decimal, Option, Some, None, option_map, IfSome, IsTrue, refl, sym, ap, subst, ◌∙◌, arith}
+use Rattle.std.proofs.Common.{drop, take-append-drop, decimal, Option, Some, None, option_map, IfSome, IsTrue, refl, sym, ap, ◌∙◌, arith}
 use Rattle.std.specs.Char.{is_ascii_digit}
 use Rattle.std.specs.List.{list_all, prefix_len}
 use Rattle.std.proofs.Math.Seq.{take-append_seam, drop-append_seam}
@@ -12,7 +12,7 @@ use Rattle.tsl_text.proofs.NumberLaws.{decimal_digits, decimal_is_read, read_is_
 use Rattle.term_text.proofs.Fronts.{name_run}
 use Rattle.line_formats.proofs.LeafLaws.{read_is_short}
 use Rattle.program_listing.specs.declared.listing.Name.{Name}
-use Rattle.program_listing.specs.LineText.{Piece, word, named, Place, Stand, is_short}
+use Rattle.program_listing.specs.LineText.{Piece, word, named, Place, is_short}
 use Rattle.program_listing.specs.internal.LineReading.{begins, skipped, name_of_length, first_name, number_of_length, first_number}
 use Rattle.program_listing.proofs.Exactly.{ReadAt, Reads}
 

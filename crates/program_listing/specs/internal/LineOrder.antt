@@ -1,9 +1,8 @@
 -- Internal: which line may stand after those that were read, as a function that computes.
-use Rattle.std.specs.Prelude.{◌≡◌, ℕ, ◌+◌, ◌-◌, ◌≤◌, nat_lt, Bool, true, false, not, ◌&&◌, ◌==◌, List, [], ◌∷◌, ◌++◌, length, map, take}
+use Rattle.std.specs.Prelude.{◌≡◌, ℕ, ◌+◌, ◌-◌, ◌≤◌, Bool, true, false, not, ◌&&◌, ◌==◌, List, [], ◌∷◌, ◌++◌, length, map, take}
 use Rattle.std.specs.Prelude.{drop, Option}
-use Rattle.std.specs.Prelude.{Some, None, is_none, option_map, option_and_then, if◌then◌else◌}
-use Rattle.std.specs.List.{list_all, prefix_len, AllByRecursion}
-use Rattle.tsl_text.specs.Lines.{is_line_byte}
+use Rattle.std.specs.Prelude.{Some, None, is_none, option_and_then, if◌then◌else◌}
+use Rattle.std.specs.List.{list_all, AllByRecursion}
 use Rattle.tsl_terms.specs.Name.{number_of, Name as NameEntry}
 use Rattle.program_listing.specs.declared.rest.LineError.{LineError}
 use Rattle.program_listing.specs.declared.rest.LineError.TheVariants.{Form, NoMemory}
@@ -15,7 +14,7 @@ use Rattle.program_listing.specs.declared.listing_reader.Stage.TheVariants.{Fres
 use Rattle.tsl_terms.specs.declared.names.NameKind.TheVariants.{Signal}
 use Rattle.program_listing.specs.ListingTree.{ListingTree, listing_tree, empty_listing}
 use Rattle.program_listing.specs.LineText.{Place, LineTree, head_line, input, cell, output, window, node, state, end_line, node_lines, state_lines}
-use Rattle.program_listing.specs.internal.LineReading.{skipped, read_line}
+use Rattle.program_listing.specs.internal.LineReading.{read_line}
 
 -- what the lines so far say: there is none, these are the lines after the head, or they end with the last line
 pub data Progress : Type 0 where
