@@ -55,18 +55,9 @@ by_line s p q bytes tree e lined read none added less = record {
   less = subst (λ (n : ℕ). left_to_do q < n) (sym (ap left_to_do e)) less;
 }
 
-head_read : (at : ℕ) → read_line (record { at = at; bytes = codes "tslprogram 1" }) ≡ Some head_line
-head_read at = refl
-
 node_read : (at : ℕ) → read_line (record { at = at; bytes = codes "node 0 set go 0" }) ≡ Some (node 0 nothing_to_do)
 unfolding repeat repeat_most
 node_read at = refl
-
-state_read : (at : ℕ) → read_line (record { at = at; bytes = codes "state 0 at 0" }) ≡ Some (state 0 0)
-state_read at = refl
-
-end_read : (at : ℕ) → read_line (record { at = at; bytes = codes "end" }) ≡ Some end_line
-end_read at = refl
 
 goes : (s : ListingState) → Reached s → (whole s ≡ true) ⊎ Goes step whole Reached measure s
 goes s r = by s.progress refl r where
@@ -77,15 +68,15 @@ goes s r = by s.progress refl r where
       (node_read s.at) refl refl (omega arith)
   by_lists l [] (k ∷ states) e valid = absurd (false≢true (valid refl))
   by_lists l (n ∷ nodes) [] e valid =
-      by_line s _ (going (record l { nodes = n ∷ nodes; states = 0 ∷ [] })) (codes "state 0 at 0") (state 0 0) e refl (state_read s.at) refl
+      by_line s _ (going (record l { nodes = n ∷ nodes; states = 0 ∷ [] })) (codes "state 0 at 0") (state 0 0) e refl refl refl
       refl (omega arith)
   by_lists l (n ∷ nodes) (k ∷ states) e valid =
-      by_line s _ (done (record l { nodes = n ∷ nodes; states = k ∷ states })) (codes "end") end_line e refl (end_read s.at) refl refl
+      by_line s _ (done (record l { nodes = n ∷ nodes; states = k ∷ states })) (codes "end") end_line e refl refl refl refl
       (omega arith)
 
   by : (p : Progress) → s.progress ≡ p → IsInOrder p → (whole s ≡ true) ⊎ Goes step whole Reached measure s
   by fresh e valid =
-      inr (by_line s fresh (going empty_listing) (codes "tslprogram 1") head_line e refl (head_read s.at) refl refl (omega arith))
+      inr (by_line s fresh (going empty_listing) (codes "tslprogram 1") head_line e refl refl refl refl (omega arith))
   by (done l) e valid = inl (ap is_done e)
   by (going l) e valid = inr (by_lists l l.nodes l.states e valid)
 

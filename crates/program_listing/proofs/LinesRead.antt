@@ -8,6 +8,7 @@ use Rattle.std.proofs.lemmas.Bool.{and_parts, ne_eqb, false≢true}
 use Rattle.std.proofs.lemmas.Option.{none-some, same_Some}
 use Rattle.tsl_text.specs.Lines.{has_bytes}
 use Rattle.tsl_text.specs.Names.{is_name_start, is_name_byte}
+use Rattle.line_formats.proofs.FormatLaws.{and_then_some}
 use Rattle.program_listing.specs.ListingTree.{SurfaceTermTree, UpdateLine, ListedLine, PlacedLine, WindowLine, NodeLine, branch_line}
 use Rattle.program_listing.specs.ListingTree.{assignment_line}
 use Rattle.program_listing.specs.LineText.{Piece, word, Place, Stand, surface_pieces, LineTree, head_line, input, cell, output, window, node}
@@ -255,21 +256,22 @@ pub record IsLineAt (p : Place) (t : LineTree) : Type 0 where
   pub ends : end.bytes ≡ []
   pub within : IsTrue (line_is_within t)
 
+ended : (u t : LineTree) (bytes : List ℕ) → value_at_end u bytes ≡ Some t → (bytes ≡ []) × (u ≡ t)
+ended u t [] e = (refl, same_Some u t e)
+ended u t (b ∷ bs) e = absurd (none-some t e)
+
+abbrev whole : LineTree × Place → Option LineTree
+whole r = value_at_end r.0 r.1.bytes
+
 -- what is read is the line
 pub line_sound : (p : Place) (t : LineTree) → read_line p ≡ Some t → IsLineAt p t
-line_sound p t e = by (line p) (line_reads.sound p) e where
-  by_bytes : (u : LineTree) (q : Place) (bytes : List ℕ) → q.bytes ≡ bytes → ReadAt line_pieces line_is_within p (u, q) →
-      value_at_end u bytes ≡ Some t → IsLineAt p t
-  by_bytes u q [] f s g = subst (IsLineAt p) (same_Some u t g) (record { end = q; stands = s.0; ends = f; within = s.1 })
-  by_bytes u q (b ∷ bs) f s g = absurd (none-some t g)
-
-  by : (o : Option (LineTree × Place)) → IfSome o (ReadAt line_pieces line_is_within p) →
-      option_and_then (λ r. value_at_end r.0 r.1.bytes) o ≡ Some t → IsLineAt p t
-  by None s g = absurd (none-some t g)
-  by (Some r) s g = by_bytes r.0 r.1 r.1.bytes refl s g
+line_sound p t e =
+    let found = and_then_some (line p) whole t e in
+    let read = found.0 in
+    let is = subst (λ (o : Option (LineTree × Place)). IfSome o (ReadAt line_pieces line_is_within p)) found.1 (line_reads.sound p) in
+    let last = ended read.0 t read.1.bytes found.2 in
+    subst (IsLineAt p) last.1 (record { end = read.1; stands = is.0; ends = last.0; within = is.1 })
 
 -- and the line is read
 pub line_complete : (p : Place) (t : LineTree) → IsLineAt p t → read_line p ≡ Some t
-line_complete p t l =
-    ap (option_and_then (λ (r : LineTree × Place). value_at_end r.0 r.1.bytes)) (line_reads.complete p t l.end l.stands l.within l.ends)
-    ∙ ap (value_at_end t) l.ends
+line_complete p t l = ap (option_and_then whole) (line_reads.complete p t l.end l.stands l.within l.ends) ∙ ap (value_at_end t) l.ends

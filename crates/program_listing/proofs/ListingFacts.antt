@@ -64,34 +64,29 @@ named_in front name rest usable n e =
           (ap is_usable bytes ∙ usable),
     )
 
+-- a piece with these bytes, and then others
+longer : (text : List ℕ) (x : Piece) (xs : List Piece) (w rest : List ℕ) (p q : Place) → p.bytes ≡ w ++ rest → piece_text text x ≡ w →
+    piece_stands text x ≡ true → InText text xs (record { at = p.at + length w; bytes = rest }) q → InText text (x ∷ xs) p q
+longer text x xs w rest p q split is stands more = record {
+  spelled = split ∙ ap (λ (zs : List ℕ). w ++ zs) more.spelled ∙ sym (append_assoc w (pieces_text text xs) q.bytes)
+      ∙ ap (λ (zs : List ℕ). (zs ++ pieces_text text xs) ++ q.bytes) (sym is);
+  stand = and_from (piece_stands text x) (pieces_stand text xs) stands more.stand;
+}
+
 pub in_text : (text : List ℕ) (xs : List Piece) (p q : Place) (front : List ℕ) → text ≡ front ++ p.bytes → length front ≡ p.at →
     Stand xs p q → InText text xs p q
 in_text text [] p q front e at s = record { spelled = ap (λ (x : Place). x.bytes) s; stand = refl }
 in_text text (word w ∷ xs) p q front e at s =
-    let next : text ≡ (front ++ w) ++ s.0 = e ∙ ap (λ (zs : List ℕ). front ++ zs) s.1 ∙ sym (append_assoc front w s.0) in
-    let more = in_text text xs (record { at = p.at + length w; bytes = s.0 }) q (front ++ w) next
-    (length-append front w ∙ ap (λ (n : ℕ). n + length w) at) s.2 in
-    record {
-      spelled = s.1 ∙ ap (λ (zs : List ℕ). w ++ zs) more.spelled ∙ sym (append_assoc w (pieces_text text xs) q.bytes);
-      stand = more.stand;
-    }
+    longer text (word w) xs w s.0 p q s.1 refl refl
+    (in_text text xs _ q (front ++ w) (e ∙ ap (λ (zs : List ℕ). front ++ zs) s.1 ∙ sym (append_assoc front w s.0))
+    (length-append front w ∙ ap (λ (n : ℕ). n + length w) at) s.2)
 in_text text (named n ∷ xs) p q front e at s =
-    let name : List ℕ = s.0 in
-    let rest : List ℕ = s.1 in
-    let split : text ≡ front ++ (name ++ rest) = e ∙ ap (λ (zs : List ℕ). front ++ zs) s.2 in
-    let next : text ≡ (front ++ name) ++ rest = split ∙ sym (append_assoc front name rest) in
-    let more = in_text text xs (record { at = p.at + length name; bytes = rest }) q (front ++ name) next
-    (length-append front name ∙ ap (λ (k : ℕ). k + length name) at) s.5 in
-    let place : n ≡ record { start = length front; end = length front + length name } =
-    s.4 ∙ ap (λ (k : ℕ). record { start = k; end = k + length name }) (sym at) in
-    let here = named_in front name rest s.3 n place in
-    let bytes : name_bytes text n ≡ name = ap (λ (zs : List ℕ). name_bytes zs n) split ∙ here.0 in
-    record {
-      spelled = s.2 ∙ ap (λ (zs : List ℕ). name ++ zs) more.spelled
-          ∙ ap (λ (zs : List ℕ). zs ++ (pieces_text text xs ++ q.bytes)) (sym bytes)
-          ∙ sym (append_assoc (name_bytes text n) (pieces_text text xs) q.bytes);
-      stand = and_from (name_stands text n) (pieces_stand text xs) (ap (λ (zs : List ℕ). name_stands zs n) split ∙ here.1) more.stand;
-    }
+    let split : text ≡ front ++ (s.0 ++ s.1) = e ∙ ap (λ (zs : List ℕ). front ++ zs) s.2 in
+    let here = named_in front s.0 s.1 s.3 n (s.4 ∙ ap (λ (k : ℕ). record { start = k; end = k + length s.0 }) (sym at)) in
+    longer text (named n) xs s.0 s.1 p q s.2 (ap (λ (zs : List ℕ). name_bytes zs n) split ∙ here.0)
+    (ap (λ (zs : List ℕ). name_stands zs n) split ∙ here.1)
+    (in_text text xs _ q (front ++ s.0) (split ∙ sym (append_assoc front s.0 s.1))
+    (length-append front s.0 ∙ ap (λ (k : ℕ). k + length s.0) at) s.5)
 
 -- ---- the names of what pieces spell stand in the text
 

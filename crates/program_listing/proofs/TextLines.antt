@@ -9,7 +9,7 @@ use Rattle.std.specs.Str.{bytes_eq}
 use Rattle.std.proofs.lemmas.Bool.{and_parts, and_from, false≢true}
 use Rattle.std.proofs.lemmas.List.{append-nil, length-map, map-append, drop-append-le, take-append-le, length-drop}
 use Rattle.std.proofs.lemmas.List.Quantifiers.{position-Some}
-use Rattle.std.proofs.lemmas.Option.{none-some, same_Some, slice_get_within}
+use Rattle.std.proofs.lemmas.Option.{none-some, same_Some, cond_some, slice_get_within}
 use Rattle.std.proofs.Math.Seq.{drop-append-add}
 use Rattle.sequence.proofs.Options.{is_none_is}
 use Rattle.sequence.proofs.Places.{slice_get_push, slice_get_some, slice_get-front, slice_get-behind}
@@ -145,20 +145,9 @@ pub stepped : (s t : ListingState) (line : List ℕ) → step s line ≡ Some t 
 stepped s t line h =
     let found = and_then_some (read_line (place_of s line)) (with_line s (place_of s line)) t h in
     let more = and_then_some (add s.progress found.0) (if_new s (place_of s line) found.0) t found.2 in
-    by found.0 more.0 found.1 more.1 (are_new s.names (entries_in (place_of s line) found.0)) refl more.2
-  where
-    by : (tree : LineTree) (q : Progress) → read_line (place_of s line) ≡ Some tree → add s.progress tree ≡ Some q → (b : Bool) →
-        are_new s.names (entries_in (place_of s line) tree) ≡ b →
-        cond b (Some (state_after s (place_of s line) tree q)) None ≡ Some t → Stepped s t line
-    by tree q read added false e k = absurd (none-some t k)
-    by tree q read added true e k = record {
-      tree = tree;
-      progress = q;
-      read = read;
-      new = e;
-      added = added;
-      is = same_Some (state_after s (place_of s line) tree q) t k;
-    }
+    let p : Place = place_of s line in
+    let last = cond_some (are_new s.names (entries_in p found.0)) (state_after s p found.0 more.0) t more.2 in
+    record { tree = found.0; progress = more.0; read = found.1; new = last.0; added = more.1; is = last.1 }
 
 pub step_is : (s : ListingState) (line : List ℕ) (tree : LineTree) (q : Progress) → read_line (place_of s line) ≡ Some tree →
     are_new s.names (entries_in (place_of s line) tree) ≡ true → add s.progress tree ≡ Some q →
