@@ -61,7 +61,8 @@ node_read at = refl
 
 goes : (s : ListingState) → Reached s → (whole s ≡ true) ⊎ Goes step whole Reached measure s
 goes s r = by s.progress refl r where
-  by_lists : (l : ListingTree) (nodes : List NodeLine) (states : List ℕ) → s.progress ≡ going (record l { nodes = nodes; states = states }) →
+  by_lists : (l : ListingTree) (nodes : List NodeLine) (states : List ℕ) →
+      s.progress ≡ going (record l { nodes = nodes; states = states }) →
       (is_nil nodes ≡ true → is_nil states ≡ true) → Goes step whole Reached measure s
   by_lists l [] [] e valid =
       by_line s _ (going (record l { nodes = nothing_to_do ∷ []; states = [] })) (codes "node 0 set go 0") (node 0 nothing_to_do) e refl

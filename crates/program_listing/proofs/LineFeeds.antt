@@ -14,8 +14,10 @@ use Rattle.tsl_text.specs.Written.{is_line}
 use Rattle.program_listing.specs.declared.listing.Name.{Name}
 use Rattle.program_listing.specs.ListingTree.{SurfaceTermTree, bare, applied, SurfaceTermTrees, no_surfaces, more_surfaces}
 use Rattle.program_listing.specs.ListingTree.{PlacedLine, branch_line, assignment_line}
-use Rattle.program_listing.specs.LineText.{Piece, word, named, Place, Stand, argument_pieces, surface_pieces, surfaces_pieces, LineTree, window}
-use Rattle.program_listing.specs.LineText.{node, state, update_pieces, set_pieces, listed_pieces, placed_pieces, equated_pieces, left_pieces}
+use Rattle.program_listing.specs.LineText.{Piece, word, named, Place, Stand, argument_pieces, surface_pieces, surfaces_pieces, LineTree}
+use Rattle.program_listing.specs.LineText.{window}
+use Rattle.program_listing.specs.LineText.{node, state, update_pieces, set_pieces, listed_pieces, placed_pieces, equated_pieces}
+use Rattle.program_listing.specs.LineText.{left_pieces}
 use Rattle.program_listing.specs.LineText.{line_pieces, ended_pieces, line_is_within}
 use Rattle.program_listing.proofs.LinesRead.{IsLineAt}
 use Rattle.program_listing.proofs.Standing.{stand_append, stand_split}
@@ -174,6 +176,7 @@ line_before_feed t p l rest =
     let at : l.end.at + 1 ≡ p.at + (length p.bytes + 1) = omega (arith, line.end, ap length whole) in
     stand_append (line_pieces t) (word (codes "\n") ∷ []) (record { at = p.at; bytes = p.bytes ++ 10 ∷ rest })
     (record { at = l.end.at; bytes = 10 ∷ rest }) (record { at = p.at + (length p.bytes + 1); bytes = rest })
-    (subst (λ (zs : List ℕ). Stand (line_pieces t) (record { at = p.at; bytes = zs ++ 10 ∷ rest }) (record { at = l.end.at; bytes = 10 ∷ rest }))
+    (subst (λ (zs : List ℕ). Stand (line_pieces t) (record { at = p.at; bytes = zs ++ 10 ∷ rest })
+    (record { at = l.end.at; bytes = 10 ∷ rest }))
     whole (line.moves (10 ∷ rest)))
     (rest, refl, ap (λ (n : ℕ). record { at = n; bytes = rest }) at)

@@ -11,19 +11,22 @@ use Rattle.tsl_text.specs.Names.{is_name_start, is_name_byte}
 use Rattle.line_formats.proofs.FormatLaws.{and_then_some}
 use Rattle.program_listing.specs.ListingTree.{SurfaceTermTree, UpdateLine, ListedLine, PlacedLine, WindowLine, NodeLine, branch_line}
 use Rattle.program_listing.specs.ListingTree.{assignment_line}
-use Rattle.program_listing.specs.LineText.{Piece, word, Place, Stand, surface_pieces, LineTree, head_line, input, cell, output, window, node}
+use Rattle.program_listing.specs.LineText.{Piece, word, Place, Stand, surface_pieces, LineTree, head_line, input, cell, output, window}
+use Rattle.program_listing.specs.LineText.{node}
 use Rattle.program_listing.specs.LineText.{state, end_line, update_pieces, set_pieces, listed_pieces, placed_pieces, equated_pieces}
 use Rattle.program_listing.specs.LineText.{left_pieces, window_pieces}
 use Rattle.program_listing.specs.LineText.{node_pieces, line_pieces, is_short, is_shallow, listed_is_within, placed_is_within}
 use Rattle.program_listing.specs.LineText.{left_is_within, window_is_within, node_is_within, line_is_within}
 use Rattle.program_listing.specs.internal.LineReading.{Shrinks, mapped, nothing, closed, either, value_at_end, begins, update, is_square}
-use Rattle.program_listing.specs.internal.LineReading.{update_follows, as_update, set_update, as_listed, listed, listed_follows, as_placed, placed}
+use Rattle.program_listing.specs.internal.LineReading.{update_follows, as_update, set_update, as_listed, listed, listed_follows, as_placed}
+use Rattle.program_listing.specs.internal.LineReading.{placed}
 use Rattle.program_listing.specs.internal.LineReading.{equated, left_side, as_window, window_rest, as_branch, branch_parts, as_assignment}
 use Rattle.program_listing.specs.internal.LineReading.{assignment_parts, node_rest, as_node, as_state, numbered_node, numbered_state, line}
 use Rattle.program_listing.specs.internal.LineReading.{read_line}
 use Rattle.program_listing.proofs.Strips.{past_none}
 use Rattle.program_listing.proofs.Standing.{stand_split}
-use Rattle.program_listing.proofs.Exactly.{ReadAt, Reads, Any, if_mapped, at_front, nothing_reads, prefixed_reads, closed_reads, mapped_reads}
+use Rattle.program_listing.proofs.Exactly.{ReadAt, Reads, Any, if_mapped, at_front, nothing_reads, prefixed_reads, closed_reads}
+use Rattle.program_listing.proofs.Exactly.{mapped_reads}
 use Rattle.program_listing.proofs.Exactly.{either_sound, shrinks, pair_reads, repeat_reads}
 use Rattle.program_listing.proofs.Numbers.{FirstDigit, first_digit}
 use Rattle.program_listing.proofs.WordsRead.{NoDigit, number_pieces, short_below, name_reads, number_reads}
@@ -167,7 +170,8 @@ branch_reads =
     (pair_reads (λ n p q s good ends. ap (begins is_ascii_digit) s.1) (prefixed_reads (codes " then ") number_reads)
     (prefixed_reads (codes " else ") number_reads))
   where
-    then_first : (v : ℕ × ℕ) (p q : Place) → Stand (word (codes " then ") ∷ word (decimal v.0) ∷ word (codes " else ") ∷ number_pieces v.1) p q →
+    then_first : (v : ℕ × ℕ) (p q : Place) →
+        Stand (word (codes " then ") ∷ word (decimal v.0) ∷ word (codes " else ") ∷ number_pieces v.1) p q →
         IsTrue (is_short v.0 && is_short v.1) → NoDigit q.bytes → EndsSurfaceTerm p.bytes
     then_first v p q s good ends =
         let parts = stand_split (word (codes " then ") ∷ number_pieces v.0) (word (codes " else ") ∷ number_pieces v.1) p q s in
@@ -236,7 +240,8 @@ line_reads = record { sound = sound; complete = complete } where
   complete p (cell n) q s good ends =
       at_front line p (codes "cell " ++ s.0) _ s.1 (ap (mapped cell) (name_reads.complete _ n q s.2 refl (ap (begins is_name_byte) ends)))
   complete p (output n) q s good ends =
-      at_front line p (codes "output " ++ s.0) _ s.1 (ap (mapped output) (name_reads.complete _ n q s.2 refl (ap (begins is_name_byte) ends)))
+      at_front line p (codes "output " ++ s.0) _ s.1
+      (ap (mapped output) (name_reads.complete _ n q s.2 refl (ap (begins is_name_byte) ends)))
   complete p (window w) q s good ends =
       at_front line p (codes "window " ++ s.0) _ s.1 (ap (mapped window) (window_reads.complete _ w q s.2 good ends))
   complete p (node i n) q s good ends =

@@ -10,9 +10,11 @@ use Rattle.sequence.proofs.Passes.{list_all_parts, list_all_joined}
 use Rattle.tsl_text.specs.Names.{is_usable}
 use Rattle.tsl_terms.specs.Name.{AreDistinct}
 use Rattle.program_listing.specs.declared.listing.Name.{Name}
-use Rattle.program_listing.specs.ListingTree.{SurfaceTermTree, bare, applied, SurfaceTermTrees, no_surfaces, more_surfaces, UpdateLine, ListedLine}
+use Rattle.program_listing.specs.ListingTree.{SurfaceTermTree, bare, applied, SurfaceTermTrees, no_surfaces, more_surfaces, UpdateLine}
+use Rattle.program_listing.specs.ListingTree.{ListedLine}
 use Rattle.program_listing.specs.ListingTree.{PlacedLine, WindowLine, NodeLine, branch_line, assignment_line, ListingTree}
-use Rattle.program_listing.specs.LineText.{Piece, word, named, Place, Stand, argument_pieces, surface_pieces, surfaces_pieces, LineTree, input}
+use Rattle.program_listing.specs.LineText.{Piece, word, named, Place, Stand, argument_pieces, surface_pieces, surfaces_pieces, LineTree}
+use Rattle.program_listing.specs.LineText.{input}
 use Rattle.program_listing.specs.LineText.{cell, output, window, node, end_line, update_pieces, set_pieces, listed_pieces, placed_pieces}
 use Rattle.program_listing.specs.LineText.{equated_pieces, left_pieces, window_pieces, node_pieces, ended_pieces, is_shallow}
 use Rattle.program_listing.specs.LineText.{is_short, listed_is_within, placed_is_within, left_is_within, window_is_within, node_is_within}
@@ -122,7 +124,8 @@ module _ (text : List ℕ) where
   surface_before : (v : SurfaceTermTree) (xs : List Piece) → is_shallow v ≡ true → pieces_stand text (surface_pieces v ++ xs) ≡ true →
       is_surface text v ≡ true
   surface_before v xs h k =
-      and_from (surface_stands text v) (is_shallow v) (sym (surface_is v) ∙ (list_all_parts (piece_stands text) (surface_pieces v) xs k).0) h
+      let first = list_all_parts (piece_stands text) (surface_pieces v) xs k in
+      and_from (surface_stands text v) (is_shallow v) (sym (surface_is v) ∙ first.0) h
 
   -- the pieces of each member, one after another
   many_stand : {A : Type 0} (pieces : A → List Piece) (good : A → Bool) (stands : A → Bool) →
@@ -225,6 +228,7 @@ pub listing_stands : (text : List ℕ) (l : ListingTree) → IsListing text l �
 listing_stands text l h =
     let parts = list_all_parts (line_stands text) in
     let names = list_all_joined (name_stands text) in
+    let each = λ (make : Name → LineTree) (ns : List Name). sym (list_all-map (line_stands text) make ns) in
     let a = parts (map input l.inputs) (from_cells l (end_line ∷ []))
     (many_stand text ended_pieces line_is_within (line_stands text) (line_is text) (listing_lines l) h.within (pieces_in text l h).stand) in
     let b = parts (map cell l.cells) (from_outputs l (end_line ∷ [])) a.1 in
@@ -233,8 +237,7 @@ listing_stands text l h =
     let e = parts (node_lines 0 l.nodes) (from_states l (end_line ∷ [])) d.1 in
     record {
       declared_stand = names (l.inputs ++ l.cells) l.outputs
-          (names l.inputs l.cells (sym (list_all-map (line_stands text) input l.inputs) ∙ a.0) (sym (list_all-map (line_stands text) cell l.cells) ∙ b.0))
-          (sym (list_all-map (line_stands text) output l.outputs) ∙ c.0);
+          (names l.inputs l.cells (each input l.inputs ∙ a.0) (each cell l.cells ∙ b.0)) (each output l.outputs ∙ c.0);
       windows_stand = sym (list_all-map (line_stands text) window l.windows) ∙ d.0;
       nodes_stand = sym (nodes_stand text 0 l.nodes) ∙ e.0;
     }

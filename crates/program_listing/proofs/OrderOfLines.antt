@@ -10,7 +10,8 @@ use Rattle.program_listing.specs.ListingTree.{NodeLine, ListingTree, empty_listi
 use Rattle.program_listing.specs.Listing.{declared}
 use Rattle.program_listing.specs.LineText.{LineTree, head_line, input, cell, output, window, node, state, end_line, node_lines, state_lines}
 use Rattle.program_listing.specs.LineText.{listing_lines}
-use Rattle.program_listing.specs.internal.LineOrder.{Progress, fresh, going, done, is_nil, no_node, no_window, no_output, no_cell, may_stand}
+use Rattle.program_listing.specs.internal.LineOrder.{Progress, fresh, going, done, is_nil, no_node, no_window, no_output, no_cell}
+use Rattle.program_listing.specs.internal.LineOrder.{may_stand}
 use Rattle.program_listing.specs.internal.LineOrder.{progress_with, add, add_all, from_states, from_nodes, from_windows, from_outputs}
 use Rattle.program_listing.specs.internal.LineOrder.{from_cells, lines_with, lines_so_far, listing_of, declares}
 
@@ -167,7 +168,8 @@ grows l (node i n) h =
     let next : i ≡ length l.nodes = eqb-true i (length l.nodes) parts.0 in
     let push = section_push node node_lines (λ i. refl) (λ i x xs. refl) 0 i l.nodes n (omega (arith, next)) in
     grows_by l (node i n)
-    (ap (λ (ts : List LineTree). head_line ∷ (map input l.inputs ++ (map cell l.cells ++ (map output l.outputs ++ (map window l.windows ++ ts)))))
+    (ap (λ (ts : List LineTree). head_line ∷ (map input l.inputs ++ (map cell l.cells ++ (map output l.outputs
+    ++ (map window l.windows ++ ts)))))
     (section_end (node_lines 0) l.nodes n (node i n) (from_states l) push (λ ts. no_states l ts parts.1)))
     (sym (append-nil (declared l))) (λ valid k. absurd (pushed l.nodes n k))
 grows l (state i n) h =

@@ -13,10 +13,12 @@ use Rattle.tsl_text.specs.Names.{is_name_start, is_name_byte, is_name_text, is_r
 use Rattle.term_text.proofs.Fronts.{name_first, no_digit_begins, no_bracket_begins}
 use Rattle.program_listing.specs.declared.listing.Name.{Name}
 use Rattle.program_listing.specs.ListingTree.{SurfaceTermTree, bare, applied, SurfaceTermTrees, no_surfaces, more_surfaces}
-use Rattle.program_listing.specs.LineText.{Piece, word, named, Place, Stand, argument_pieces, applied_pieces, surface_pieces, surfaces_pieces}
+use Rattle.program_listing.specs.LineText.{Piece, word, named, Place, Stand, argument_pieces, applied_pieces, surface_pieces}
+use Rattle.program_listing.specs.LineText.{surfaces_pieces}
 use Rattle.program_listing.specs.LineText.{bracketed_surface, surface_brackets, surfaces_brackets, is_shallow}
 use Rattle.program_listing.specs.internal.LineReading.{LineReader, Shrinks, mapped, nothing, either, begins, surfaces_of, is_open}
-use Rattle.program_listing.specs.internal.LineReading.{number_follows, argument_begins, argument_follows, tail_of, with_tail, tail, surface_by}
+use Rattle.program_listing.specs.internal.LineReading.{number_follows, argument_begins, argument_follows, tail_of, with_tail, tail}
+use Rattle.program_listing.specs.internal.LineReading.{surface_by}
 use Rattle.program_listing.specs.internal.LineReading.{short, argument_surface, spaced_argument, arguments, surface_with, has_arguments}
 use Rattle.program_listing.specs.internal.LineReading.{if_applied, only_applied, surface_in_brackets, surface}
 use Rattle.program_listing.specs.internal.LineOrder.{is_nil}
@@ -96,7 +98,8 @@ arguments_of v = in_tail (parts_of v).1
 
 -- with any reader of arguments
 module _ {reader : LineReader (List SurfaceTermTree)} {good : List SurfaceTermTree → Bool} {Ends : List ℕ → Type 0}
-    (h : Reads reader (flat_map spaced_pieces) good Ends) (none : good [] ≡ true) (ended : (bytes : List ℕ) → Ends bytes → EndsArgument bytes) where
+    (h : Reads reader (flat_map spaced_pieces) good Ends) (none : good [] ≡ true)
+    (ended : (bytes : List ℕ) → Ends bytes → EndsArgument bytes) where
   tail_read : (p q : Place) (vs : List SurfaceTermTree) → Stand (flat_map spaced_pieces vs) p q → IsTrue (good vs) →
       ReadAt tail_pieces (λ t. good (in_tail t)) p (tail_of vs, q)
   tail_read p q [] s fine = (s, fine)
@@ -211,8 +214,9 @@ spaced_starts v p q s ends =
     )
 
 -- where those in brackets are read
-module _ (levels_left : ℕ) (h : Reads (surface_in_brackets levels_left) own_pieces (applied_within levels_left) Any) where
-  argument_reads : Reads (argument_surface (surface_in_brackets levels_left)) own_pieces (argument_is_within levels_left) EndsArgument
+module _ (brackets : LineReader SurfaceTermTree) (levels_left : ℕ)
+    (h : Reads brackets own_pieces (applied_within levels_left) Any) where
+  argument_reads : Reads (argument_surface brackets) own_pieces (argument_is_within levels_left) EndsArgument
   argument_reads = record { sound = sound; complete = complete } where
     short_within : (v : SurfaceTermTree) (p q : Place) → ReadAt surface_pieces (λ v. is_nil (arguments_of v)) p (v, q) →
         ReadAt own_pieces (argument_is_within levels_left) p (v, q)
@@ -220,33 +224,34 @@ module _ (levels_left : ℕ) (h : Reads (surface_in_brackets levels_left) own_pi
     short_within (applied n no_surfaces) p q s = (s.0, le-leb 0 levels_left (omega arith))
     short_within (applied n (more_surfaces v vs)) p q s = absurd (false≢true s.1)
 
-    sound : (p : Place) → IfSome (argument_surface (surface_in_brackets levels_left) p) (ReadAt own_pieces (argument_is_within levels_left) p)
+    sound : (p : Place) → IfSome (argument_surface brackets p) (ReadAt own_pieces (argument_is_within levels_left) p)
     sound p = by (begins is_open p.bytes) where
-      by : (t : Bool) → IfSome (cond t (surface_in_brackets levels_left p) (short p)) (ReadAt own_pieces (argument_is_within levels_left) p)
-      by true = IfSome_then (surface_in_brackets levels_left p) (h.sound p)
+      by : (t : Bool) → IfSome (cond t (brackets p) (short p)) (ReadAt own_pieces (argument_is_within levels_left) p)
+      by true = IfSome_then (brackets p) (h.sound p)
           (λ r s. (s.0, (and_parts (argument_is_within levels_left r.0) (has_arguments r.0) s.1).0))
       by false = IfSome_then (short p) (short_reads.sound p) (λ r s. short_within r.0 p r.1 s)
 
-    complete : (p : Place) (v : SurfaceTermTree) (q : Place) → Stand (own_pieces v) p q → IsTrue (argument_is_within levels_left v) →
-        EndsArgument q.bytes → argument_surface (surface_in_brackets levels_left) p ≡ Some (v, q)
-    complete p (bare n) q s good ends =
-        cond-false (begins is_open p.bytes) _ (short p) (no_bracket (bare n) p q s) ∙ short_reads.complete p (bare n) q s refl ends
-    complete p (applied n no_surfaces) q s good ends =
-        cond-false (begins is_open p.bytes) _ (short p) (no_bracket (applied n no_surfaces) p q s)
-        ∙ short_reads.complete p (applied n no_surfaces) q s refl ends
-    complete p (applied n (more_surfaces v vs)) q s good ends =
-        cond-true (begins is_open p.bytes) _ (short p) (ap (begins is_open) s.1)
-        ∙ h.complete p (applied n (more_surfaces v vs)) q s (and_from (argument_is_within levels_left (applied n (more_surfaces v vs))) true good refl) tt
+    by_short : (v : SurfaceTermTree) (p q : Place) → Stand (surface_pieces v) p q → IsTrue (is_nil (arguments_of v)) →
+        EndsArgument q.bytes → argument_surface brackets p ≡ Some (v, q)
+    by_short v p q s none ends =
+        cond-false (begins is_open p.bytes) (brackets p) (short p) (no_bracket v p q s) ∙ short_reads.complete p v q s none ends
 
-  spaced_reads : Reads (spaced_argument (surface_in_brackets levels_left)) spaced_pieces (argument_is_within levels_left) EndsArgument
+    complete : (p : Place) (v : SurfaceTermTree) (q : Place) → Stand (own_pieces v) p q → IsTrue (argument_is_within levels_left v) →
+        EndsArgument q.bytes → argument_surface brackets p ≡ Some (v, q)
+    complete p (bare n) q s good ends = by_short (bare n) p q s refl ends
+    complete p (applied n no_surfaces) q s good ends = by_short (applied n no_surfaces) p q s refl ends
+    complete p (applied n (more_surfaces v vs)) q s good ends =
+        let fine = and_from (argument_is_within levels_left (applied n (more_surfaces v vs))) true good refl in
+        cond-true (begins is_open p.bytes) (brackets p) (short p) (ap (begins is_open) s.1) ∙ h.complete p _ q s fine tt
+
+  spaced_reads : Reads (spaced_argument brackets) spaced_pieces (argument_is_within levels_left) EndsArgument
   spaced_reads = prefixed_reads (codes " ") argument_reads
 
   -- each takes its space at least
-  pub spaced_shrinks : Shrinks (spaced_argument (surface_in_brackets levels_left))
+  spaced_shrinks : Shrinks (spaced_argument brackets)
   spaced_shrinks = shrinks 32 [] own_pieces spaced_reads
 
-  arguments_read : Reads (arguments (surface_in_brackets levels_left)) (flat_map spaced_pieces) (list_all (argument_is_within levels_left))
-      EndsSurfaceTerm
+  arguments_read : Reads (arguments brackets) (flat_map spaced_pieces) (list_all (argument_is_within levels_left)) EndsSurfaceTerm
   arguments_read =
       repeat_reads argument_follows spaced_reads spaced_shrinks (λ v p q s good ends. spaced_starts v p q s ends) (λ bytes ends. ends)
 
@@ -275,10 +280,10 @@ list_within levels_left (more_surfaces v vs) =
 abbrev pub is_within : ℕ → SurfaceTermTree → Bool
 is_within levels_left v = leb (surface_brackets v) levels_left
 
-surface_with_reads : (levels_left : ℕ) → Reads (surface_in_brackets levels_left) own_pieces (applied_within levels_left) Any →
-    Reads (surface_with (surface_in_brackets levels_left)) surface_pieces (is_within levels_left) EndsSurfaceTerm
-surface_with_reads levels_left h =
-    restated (λ v good. refl) keeps (surface_by_reads (arguments_read levels_left h) refl (λ bytes ends. ends.1))
+surface_with_reads : (brackets : LineReader SurfaceTermTree) (levels_left : ℕ) →
+    Reads brackets own_pieces (applied_within levels_left) Any → Reads (surface_with brackets) surface_pieces (is_within levels_left) EndsSurfaceTerm
+surface_with_reads brackets levels_left h =
+    restated (λ v good. refl) keeps (surface_by_reads (arguments_read brackets levels_left h) refl (λ bytes ends. ends.1))
   where
     keeps : (v : SurfaceTermTree) → list_all (argument_is_within levels_left) (arguments_of v) ≡ is_within levels_left v
     keeps (bare n) = sym (le-leb 0 levels_left (omega arith))
@@ -308,12 +313,14 @@ brackets_read zero = record { sound = λ p. tt; complete = λ p v q s good ends.
   none (bare n) h = false≢true h
   none (applied n no_surfaces) h = false≢true h
   none (applied n (more_surfaces v vs)) h =
-      let deep = leb-true (1 + surfaces_brackets (more_surfaces v vs)) 0 (and_parts (leb (1 + surfaces_brackets (more_surfaces v vs)) 0) true h).0 in
+      let levels : ℕ = 1 + surfaces_brackets (more_surfaces v vs) in
+      let deep = leb-true levels 0 (and_parts (leb levels 0) true h).0 in
       omega (arith, deep)
 brackets_read (suc levels_left) =
     restated same keeps
     (closed_reads (codes ")") (λ rest. (refl, record { no_letter = refl; no_open = refl; no_number = refl }))
-    (prefixed_reads (codes "(") (only_reads (surface_with_reads levels_left (brackets_read levels_left)))))
+    (prefixed_reads (codes "(")
+    (only_reads (surface_with_reads (surface_in_brackets levels_left) levels_left (brackets_read levels_left)))))
   where
     same : (v : SurfaceTermTree) → IsTrue (is_within levels_left v && has_arguments v) →
         word (codes "(") ∷ (surface_pieces v ++ word (codes ")") ∷ []) ≡ own_pieces v
@@ -339,8 +346,8 @@ brackets_read (suc levels_left) =
         brackets = surfaces_brackets (more_surfaces v vs)
 
 pub surface_reads : Reads surface surface_pieces is_shallow EndsSurfaceTerm
-surface_reads = surface_with_reads deepest (brackets_read deepest)
+surface_reads = surface_with_reads (surface_in_brackets deepest) deepest (brackets_read deepest)
 
 -- each argument takes a byte at least
 pub arguments_shrink : (levels_left : ℕ) → Shrinks (spaced_argument (surface_in_brackets levels_left))
-arguments_shrink levels_left = spaced_shrinks levels_left (brackets_read levels_left)
+arguments_shrink levels_left = spaced_shrinks (surface_in_brackets levels_left) levels_left (brackets_read levels_left)

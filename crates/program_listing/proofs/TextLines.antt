@@ -10,13 +10,14 @@ use Rattle.std.proofs.lemmas.Bool.{and_parts, and_from, false≢true}
 use Rattle.std.proofs.lemmas.List.{append-nil, length-map, map-append, drop-append-le, take-append-le, length-drop}
 use Rattle.std.proofs.lemmas.List.Quantifiers.{position-Some}
 use Rattle.std.proofs.lemmas.Option.{none-some, same_Some, cond_some, slice_get_within}
-use Rattle.std.proofs.Math.Seq.{drop-append-add}
+use Rattle.std.proofs.Math.Seq.{take-append_seam, drop-append-add}
 use Rattle.sequence.proofs.Options.{is_none_is}
 use Rattle.sequence.proofs.Places.{slice_get_push, slice_get_some, slice_get-front, slice_get-behind}
 use Rattle.tsl_text.specs.Written.{is_line, text_of_lines}
 use Rattle.tsl_terms.specs.declared.names.NameKind.TheVariants.{Signal}
 use Rattle.tsl_terms.specs.Name.{AreDistinct, number_of, texts, Name as NameEntry}
 use Rattle.tsl_terms.proofs.FirstUses.{first_of, first_some, not_found, named_is, first_at}
+use Rattle.tsl_terms.proofs.NameLemmas.{absent_before}
 use Rattle.line_formats.specs.Machine.{steps, IsText}
 use Rattle.line_formats.proofs.FormatLaws.{and_then_some}
 use Rattle.program_listing.specs.declared.listing.Name.{Name}
@@ -29,7 +30,8 @@ use Rattle.program_listing.specs.declared.rest.LineError.TheVariants.{Form, NoMe
 use Rattle.program_listing.specs.internal.LineReading.{IsMisread, read_line}
 use Rattle.program_listing.specs.internal.LineOrder.{Progress, fresh, done, add, add_all}
 use Rattle.program_listing.specs.internal.LineOrder.{declares, ListingState, start, whole, step, step_at, IsRepeated}
-use Rattle.program_listing.specs.internal.LineOrder.{is_done, entry_in, entries_in, are_new, state_after, if_new, with_line, LiesIn, DeclaresIn}
+use Rattle.program_listing.specs.internal.LineOrder.{is_done, entry_in, entries_in, are_new, state_after, if_new, with_line, LiesIn}
+use Rattle.program_listing.specs.internal.LineOrder.{DeclaresIn}
 use Rattle.program_listing.proofs.LineFeeds.{ended_line, line_before_feed}
 use Rattle.program_listing.proofs.LinesRead.{IsLineAt, line_sound, line_complete}
 use Rattle.program_listing.proofs.ListingFacts.{listing_from}
@@ -112,20 +114,10 @@ distinct_more names (e ∷ f ∷ later) few new h = absurd (omega (arith, few))
 all_new : (names later rest : List NameEntry) → length later ≤ 1 → AreDistinct (names ++ (later ++ rest)) → are_new names later ≡ true
 all_new names [] rest few h = refl
 all_new names (e ∷ f ∷ later) rest few h = absurd (omega (arith, few))
-all_new names (e ∷ []) rest few h = by (number_of names e.text) refl where
-  by : (o : Option ℕ) → number_of names e.text ≡ o → (is_none (number_of names e.text) && true) ≡ true
-  by None x = ap (λ (o : Option ℕ). is_none o && true) x
-  by (Some i) x =
-      let within = (position-Some (bytes_eq e.text) (texts names) i [] x).0 in
-      let entry = slice_get_some names i (omega (arith, within, length-map names (λ (n : NameEntry). n.text))) in
-      let first : first_of names e.text ≡ Some entry.0 =
-      sym (named_is names e.text) ∙ ap (option_and_then (slice_get names)) x ∙ entry.1 in
-      let found = first_at names e.text entry.0 first in
-      let below : found.at < length names = slice_get_within names found.at entry.0 found.there in
-      let same : found.at ≡ length names =
-      h found.at (length names) entry.0 e (slice_get-front names (e ∷ rest) found.at below ∙ found.there) (slice_get-behind names e rest)
-      (sym found.same) in
-      absurd (omega (arith, below, same))
+all_new names (e ∷ []) rest few h =
+    ap (λ (o : Option ℕ). is_none o && true)
+    (ap (λ (ns : List NameEntry). number_of ns e.text) (sym (take-append_seam names (e ∷ rest)))
+    ∙ absent_before (names ++ e ∷ rest) (length names) e.text h (rw (slice_get-behind names e rest) refl))
 
 -- ---- one line more
 
@@ -308,10 +300,10 @@ leads (tree ∷ trees) s p stop l front here len h stands adds distinct =
 -- the text of a listing is its lines
 pub listing_leads : (text : List ℕ) (l : ListingTree) → IsListing text l → Leads start text l
 listing_leads text l is =
-    let names : declared l ≡ flat_map declares (listing_lines l) = (grown_all (listing_lines l) fresh (done l) (listing_adds l is.has_node is.has_state)).1 in
+    let adds = listing_adds l is.has_node is.has_state in
+    let names : declared l ≡ flat_map declares (listing_lines l) = (grown_all (listing_lines l) fresh (done l) adds).1 in
     leads (listing_lines l) start (record { at = 0; bytes = text }) is.end l [] refl refl is.within is.in_place
-    (listing_adds l is.has_node is.has_state)
-    (let P : List Name → Type 0 = λ ns. AreDistinct (map (declared_entry text) ns) in subst P names is.declared_once)
+    adds (subst (λ (ns : List Name). AreDistinct (map (declared_entry text) ns)) names is.declared_once)
 
 pub leads_to_text : (text : List ℕ) (l : ListingTree) → (r : Leads start text l) → IsText step whole start r.lines r.end
 leads_to_text text l r = record {

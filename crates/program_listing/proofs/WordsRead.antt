@@ -37,7 +37,8 @@ front_run : (test : ℕ → Bool) (p q : Place) (front rest : List ℕ) → p.by
 front_run test p q front rest e all next ends = record {
   len = ap (prefix_len test) e ∙ prefix_len_run test front rest all (ap (λ (x : Place). begins test x.bytes) next ∙ ends);
   is = ap (take (length front)) e ∙ take-append_seam front rest;
-  past = ap (λ (bytes : List ℕ). record { at = p.at + length front; bytes = bytes }) (ap (drop (length front)) e ∙ drop-append_seam front rest);
+  past = ap (λ (bytes : List ℕ). record { at = p.at + length front; bytes = bytes })
+      (ap (drop (length front)) e ∙ drop-append_seam front rest);
 }
 
 -- ---- names
@@ -92,7 +93,9 @@ short_below n h = ltb-true n (10 ^ 18) h
 
 pub number_reads : Reads first_number number_pieces is_short NoDigit
 number_reads = record {
-  sound = λ p. number_at p (prefix_len is_ascii_digit p.bytes) (length-prefix_len is_ascii_digit p.bytes) (plain_number_in (take _ p.bytes)) refl;
+  sound = λ p.
+      let len : ℕ = prefix_len is_ascii_digit p.bytes in
+      number_at p len (length-prefix_len is_ascii_digit p.bytes) (plain_number_in (take len p.bytes)) refl;
   complete = λ p n q s good ends.
       let below : n < 10 ^ 18 = short_below n good in
       let run = front_run is_ascii_digit p q (decimal n) s.0 s.1 (decimal_digits n (omega (arith, below))) s.2 ends in

@@ -6,7 +6,8 @@ ghost use Rattle.tsl_text.specs.Names.{is_name_start};
 ghost use Rattle.program_listing.specs.ListingTree.{surface_tree};
 ghost use Rattle.program_listing.specs.internal.LineReading.{IsReadAs, IsUnread, begins, is_open, number_follows, argument_begins};
 ghost use Rattle.program_listing.specs.internal.LineReading.{argument_follows, short, argument_surface, spaced_argument, arguments};
-ghost use Rattle.program_listing.specs.internal.LineReading.{surface_of, surface_with, has_arguments, only_applied, bracketed, surface_in_brackets, surface};
+ghost use Rattle.program_listing.specs.internal.LineReading.{surface_of, surface_with, has_arguments, only_applied, bracketed};
+ghost use Rattle.program_listing.specs.internal.LineReading.{surface_in_brackets, surface};
 
 use crate::listing::{Name, SurfaceTerm, SurfaceTermList};
 use crate::rest::{LineError, Reading, Rest};

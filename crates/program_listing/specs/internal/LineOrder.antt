@@ -13,7 +13,8 @@ use Rattle.program_listing.specs.declared.listing_reader.Stage.{Stage}
 use Rattle.program_listing.specs.declared.listing_reader.Stage.TheVariants.{Fresh, Going, Done}
 use Rattle.tsl_terms.specs.declared.names.NameKind.TheVariants.{Signal}
 use Rattle.program_listing.specs.ListingTree.{ListingTree, listing_tree, empty_listing}
-use Rattle.program_listing.specs.LineText.{Place, LineTree, head_line, input, cell, output, window, node, state, end_line, node_lines, state_lines}
+use Rattle.program_listing.specs.LineText.{Place, LineTree, head_line, input, cell, output, window, node, state, end_line, node_lines}
+use Rattle.program_listing.specs.LineText.{state_lines}
 use Rattle.program_listing.specs.internal.LineReading.{read_line}
 
 -- what the lines so far say: there is none, these are the lines after the head, or they end with the last line

@@ -10,12 +10,13 @@ use Rattle.program_listing.proofs.surfaces.+surface.Goals as goal
 
 pub surface_in_brackets-returns-in-Some-clause-ok : goal.surface_in_brackets-returns-in-Some-clause-ok
 surface_in_brackets-returns-in-Some-clause-ok t c =
-    IfOk-weaker c.bracketed.result _ _ (λ read e. one_level c.args.levels_left c.in-Some.below (left_place c.args.left) c.in-Some.ensures.some ∙ e) c.bracketed.ensures.ok
+    let more = one_level c.args.levels_left c.in-Some.below (left_place c.args.left) c.in-Some.ensures.some in
+    IfOk-weaker c.bracketed.result _ _ (λ read e. more ∙ e) c.bracketed.ensures.ok
 
 pub surface_in_brackets-returns-in-Some-clause-wrong : goal.surface_in_brackets-returns-in-Some-clause-wrong
 surface_in_brackets-returns-in-Some-clause-wrong t c =
-    IfErr-weaker c.bracketed.result _ _ (λ fault h. misread_on _ _ fault (λ none.
-    one_level c.args.levels_left c.in-Some.below (left_place c.args.left) c.in-Some.ensures.some ∙ none) h) c.bracketed.ensures.wrong
+    let more = one_level c.args.levels_left c.in-Some.below (left_place c.args.left) c.in-Some.ensures.some in
+    IfErr-weaker c.bracketed.result _ _ (λ fault h. misread_on _ _ fault (λ none. more ∙ none) h) c.bracketed.ensures.wrong
 
 pub arguments-returns-in_err-argument-clause-wrong : goal.arguments-returns-in_err-argument-clause-wrong
 arguments-returns-in_err-argument-clause-wrong t c =
@@ -34,9 +35,9 @@ arguments-loop-alloc-smaller t c =
 
 pub arguments-loop-alloc-preserved : goal.arguments-loop-alloc-preserved
 arguments-loop-alloc-preserved t c =
-    loop_more surface_tree argument_follows (spaced_argument (surface_in_brackets c.args.levels_left)) _ (arguments_shrink c.args.levels_left)
-    c.loop-alloc.found.items c.push.new.self.items c.in_ok-argument.argument (left_place c.loop-alloc.rest)
-    (left_place c.in_ok-argument.later) c.in_ok-push.ensures.items
+    loop_more surface_tree argument_follows (spaced_argument (surface_in_brackets c.args.levels_left)) _
+    (arguments_shrink c.args.levels_left) c.loop-alloc.found.items c.push.new.self.items c.in_ok-argument.argument
+    (left_place c.loop-alloc.rest) (left_place c.in_ok-argument.later) c.in_ok-push.ensures.items
     (sym c.argument_follows.ensures ∙ c.loop-alloc-test.true) c.in_ok-argument.ensures.ok c.loop-alloc.invariant
 
 pub arguments-returns-clause-ok : goal.arguments-returns-clause-ok
