@@ -281,7 +281,8 @@ abbrev pub is_within : ℕ → SurfaceTermTree → Bool
 is_within levels_left v = leb (surface_brackets v) levels_left
 
 surface_with_reads : (brackets : LineReader SurfaceTermTree) (levels_left : ℕ) →
-    Reads brackets own_pieces (applied_within levels_left) Any → Reads (surface_with brackets) surface_pieces (is_within levels_left) EndsSurfaceTerm
+    Reads brackets own_pieces (applied_within levels_left) Any →
+    Reads (surface_with brackets) surface_pieces (is_within levels_left) EndsSurfaceTerm
 surface_with_reads brackets levels_left h =
     restated (λ v good. refl) keeps (surface_by_reads (arguments_read brackets levels_left h) refl (λ bytes ends. ends.1))
   where

@@ -5,18 +5,16 @@ use Rattle.std.proofs.Common.{map, flat_map, codes, Option, Some, None, ◌⊎�
 use Rattle.std.proofs.Common.{arith}
 use Rattle.std.specs.Prelude.{is_none, is_some, option_and_then, cond}
 use Rattle.std.specs.List.{list_all, AllByRecursion}
-use Rattle.std.specs.Str.{bytes_eq}
 use Rattle.std.proofs.lemmas.Bool.{and_parts, and_from, false≢true}
-use Rattle.std.proofs.lemmas.List.{append-nil, length-map, map-append, drop-append-le, take-append-le, length-drop}
-use Rattle.std.proofs.lemmas.List.Quantifiers.{position-Some}
-use Rattle.std.proofs.lemmas.Option.{none-some, same_Some, cond_some, slice_get_within}
+use Rattle.std.proofs.lemmas.List.{append-nil, map-append, drop-append-le, take-append-le, length-drop}
+use Rattle.std.proofs.lemmas.Option.{none-some, same_Some, cond_some}
 use Rattle.std.proofs.Math.Seq.{take-append_seam, drop-append-add}
 use Rattle.sequence.proofs.Options.{is_none_is}
-use Rattle.sequence.proofs.Places.{slice_get_push, slice_get_some, slice_get-front, slice_get-behind}
+use Rattle.sequence.proofs.Places.{slice_get_push, slice_get-behind}
 use Rattle.tsl_text.specs.Written.{is_line, text_of_lines}
 use Rattle.tsl_terms.specs.declared.names.NameKind.TheVariants.{Signal}
-use Rattle.tsl_terms.specs.Name.{AreDistinct, number_of, texts, Name as NameEntry}
-use Rattle.tsl_terms.proofs.FirstUses.{first_of, first_some, not_found, named_is, first_at}
+use Rattle.tsl_terms.specs.Name.{AreDistinct, number_of, Name as NameEntry}
+use Rattle.tsl_terms.proofs.FirstUses.{first_of, first_some, not_found}
 use Rattle.tsl_terms.proofs.NameLemmas.{absent_before}
 use Rattle.line_formats.specs.Machine.{steps, IsText}
 use Rattle.line_formats.proofs.FormatLaws.{and_then_some}
