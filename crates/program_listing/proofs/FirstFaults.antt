@@ -14,7 +14,7 @@ use Rattle.program_listing.specs.internal.LineReading.{repeat, repeat_most, read
 use Rattle.program_listing.specs.internal.LineOrder.{Progress, fresh, going, done, is_nil, is_done, add, declares, entry_in}
 use Rattle.program_listing.specs.internal.LineOrder.{are_new, state_after, ListingState, start, whole, step}
 use Rattle.program_listing.proofs.OrderOfLines.{IsInOrder, grown}
-use Rattle.program_listing.proofs.TextLines.{stepped, step_is, listing_of_lines, listing_leads, leads_to_text}
+use Rattle.program_listing.proofs.TextLines.{stepped, step_is, listing_of_lines, listing_leads}
 
 -- ---- a line that goes on
 
@@ -116,7 +116,7 @@ first_fault text number h =
         other_is = text_append w.before w.ending;
       };
       here = λ another m is b. here w another m is b;
-      none = λ m is. let r = listing_leads text m is in w.none r.lines r.end (leads_to_text text m r) r.split;
+      none = λ m is. let r = listing_leads text m is in w.none r.lines r.end r.is_text r.split;
     }
   where
     here : (w : IsFirstWrong step whole start text number) (another : List ℕ) (m : ListingTree) → IsListing another m →
@@ -125,8 +125,8 @@ first_fault text number h =
         let r = listing_leads another m is in
         let front = all_front is_line w.before w.ending w.goes_on.lines in
         let next = one_more_line w.before b.lines b.after_text w.after front b.are_lines (b.number ∙ w.number) (sym b.text_is ∙ w.split) in
-        let more = lines_begin b.lines r.lines b.after_other b.are_lines r.are_lines (sym r.split ∙ b.other_is) in
+        let more = lines_begin b.lines r.lines b.after_other b.are_lines r.is_text.lines (sym r.split ∙ b.other_is) in
         let order : r.lines ≡ w.before ++ next.0 ∷ more.0 =
         more.1 ∙ ap (λ (ls : List (List ℕ)). ls ++ more.0) next.2 ∙ append_assoc w.before (next.0 ∷ []) more.0 in
         let P : List (List ℕ) → Type 0 = λ ls. IsText step whole start ls r.end in
-        w.here next.0 b.after_text more.0 r.end next.3 next.1 (subst P order (leads_to_text another m r))
+        w.here next.0 b.after_text more.0 r.end next.3 next.1 (subst P order r.is_text)

@@ -245,22 +245,22 @@ pub record Leads (s : ListingState) (bytes : List ℕ) (l : ListingTree) : Type 
   pub lines : List (List ℕ)
   pub end : ListingState
   pub split : bytes ≡ text_of_lines lines
-  pub are_lines : list_all is_line lines ≡ true
-  pub says : steps step s lines ≡ Some end
+  pub is_text : IsText step whole s lines end
   pub done : end.progress ≡ done l
 
 leads : (trees : List LineTree) (s : ListingState) (p : Place) (stop : ℕ) (l : ListingTree) (front : List ℕ) → s.at ≡ p.at →
     p.at ≡ length front → list_all line_is_within trees ≡ true →
     Stand (flat_map ended_pieces trees) p (record { at = stop; bytes = [] }) → add_all trees s.progress ≡ Some (done l) →
     AreDistinct (s.names ++ map (declared_entry (front ++ p.bytes)) (flat_map declares trees)) → Leads s p.bytes l
-leads [] s p stop l front here len h stands adds distinct = record {
-  lines = [];
-  end = s;
-  split = ap (λ (x : Place). x.bytes) stands;
-  are_lines = refl;
-  says = refl;
-  done = same_Some s.progress (done l) adds;
-}
+leads [] s p stop l front here len h stands adds distinct =
+    let last : s.progress ≡ done l = same_Some s.progress (done l) adds in
+    record {
+      lines = [];
+      end = s;
+      split = ap (λ (x : Place). x.bytes) stands;
+      is_text = record { lines = refl; says = refl; done = ap is_done last };
+      done = last;
+    }
 leads (tree ∷ trees) s p stop l front here len h stands adds distinct =
     let parts = stand_split (ended_pieces tree) (flat_map ended_pieces trees) p (record { at = stop; bytes = [] }) stands in
     let m : Place = parts.0 in
@@ -289,9 +289,12 @@ leads (tree ∷ trees) s p stop l front here len h stands adds distinct =
       lines = line ∷ rest.lines;
       end = rest.end;
       split = first.split ∙ ap (λ (zs : List ℕ). line ++ 10 ∷ zs) rest.split ∙ sym (append_assoc line (10 ∷ []) (text_of_lines rest.lines));
-      are_lines = and_from (is_line line) (list_all is_line rest.lines) first.is_line rest.are_lines;
-      says = ap (option_and_then (λ u. steps step u rest.lines)) (step_is s line tree found.0 (line_complete (place_of s line) tree at) new
-          found.1) ∙ rest.says;
+      is_text = record {
+        lines = and_from (is_line line) (list_all is_line rest.lines) first.is_line rest.is_text.lines;
+        says = ap (option_and_then (λ u. steps step u rest.lines))
+            (step_is s line tree found.0 (line_complete (place_of s line) tree at) new found.1) ∙ rest.is_text.says;
+        done = rest.is_text.done;
+      };
       done = rest.done;
     }
 
@@ -302,10 +305,3 @@ listing_leads text l is =
     let names : declared l ≡ flat_map declares (listing_lines l) = (grown_all (listing_lines l) fresh (done l) adds).1 in
     leads (listing_lines l) start (record { at = 0; bytes = text }) is.end l [] refl refl is.within is.in_place
     adds (subst (λ (ns : List Name). AreDistinct (map (declared_entry text) ns)) names is.declared_once)
-
-pub leads_to_text : (text : List ℕ) (l : ListingTree) → (r : Leads start text l) → IsText step whole start r.lines r.end
-leads_to_text text l r = record {
-  lines = r.are_lines;
-  says = r.says;
-  done = ap is_done r.done;
-}
