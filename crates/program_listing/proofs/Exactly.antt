@@ -6,8 +6,7 @@ use Rattle.std.proofs.lemmas.Bool.{and_parts, and_from}
 use Rattle.std.proofs.lemmas.Option.{IfSome_then}
 use Rattle.program_listing.specs.LineText.{Piece, word, Place, Stand}
 use Rattle.program_listing.specs.internal.LineReading.{LineReader, Shrinks, past, mapped, and_next, pair, prefixed, and_past, closed}
-use Rattle.program_listing.specs.internal.LineReading.{nothing, either}
-use Rattle.program_listing.specs.internal.LineReading.{with_first, go_on, repeat_most, repeat}
+use Rattle.program_listing.specs.internal.LineReading.{nothing, either, with_first, go_on, repeat_most, repeat}
 use Rattle.program_listing.proofs.Strips.{past_found, past_sound}
 use Rattle.program_listing.proofs.Standing.{stand_append, stand_split, stand_shorter}
 use Rattle.program_listing.proofs.Repeats.{repeat_more, repeat_end}

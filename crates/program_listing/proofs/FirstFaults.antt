@@ -11,8 +11,8 @@ use Rattle.program_listing.specs.Listing.{IsListing, BeginAlike, FormFault}
 use Rattle.program_listing.specs.ListingTree.{NodeLine, assignment_line, ListingTree, empty_listing}
 use Rattle.program_listing.specs.LineText.{LineTree, head_line, node, state, end_line}
 use Rattle.program_listing.specs.internal.LineReading.{repeat, repeat_most, read_line}
-use Rattle.program_listing.specs.internal.LineOrder.{Progress, fresh, going, done, is_nil, is_done, add, declares, entry_in}
-use Rattle.program_listing.specs.internal.LineOrder.{are_new, state_after, ListingState, start, whole, step}
+use Rattle.program_listing.specs.internal.LineOrder.{Progress, fresh, going, done, is_nil, is_done, add, declares, entry_in, are_new}
+use Rattle.program_listing.specs.internal.LineOrder.{state_after, ListingState, start, whole, step}
 use Rattle.program_listing.proofs.OrderOfLines.{IsInOrder, grown}
 use Rattle.program_listing.proofs.TextLines.{stepped, step_is, listing_of_lines, listing_leads}
 

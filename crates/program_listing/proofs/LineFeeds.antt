@@ -1,7 +1,7 @@
 -- A line has no line feed within it, and is read alike whatever follows it.
 use Rattle.std.proofs.Common.{◌≡◌, ℕ, zero, suc, ◌+◌, ◌/◌, ◌%◌, Bool, true, false, not, cond, eqb, ltb, List, [], ◌∷◌, ◌++◌, length}
-use Rattle.std.proofs.Common.{length-append, flat_map, codes, decimal, Option, Some, None, IsTrue, refl, sym, ap, subst, ◌∙◌}
-use Rattle.std.proofs.Common.{append_assoc, arith}
+use Rattle.std.proofs.Common.{length-append, flat_map, codes, decimal, Option, Some, None, IsTrue, refl, sym, ap, subst, ◌∙◌, append_assoc}
+use Rattle.std.proofs.Common.{arith}
 use Rattle.std.specs.Fmt.{digits, digits_onto, digit_glyph}
 use Rattle.std.specs.List.{list_all}
 use Rattle.std.proofs.lemmas.Bool.{and_parts, and_from, eqb-true, ne_eqb, false≢true, false_from_ne_true}
@@ -12,13 +12,11 @@ use Rattle.tsl_text.specs.Lines.{is_line_byte}
 use Rattle.tsl_text.specs.Names.{is_name_byte, is_usable}
 use Rattle.tsl_text.specs.Written.{is_line}
 use Rattle.program_listing.specs.declared.listing.Name.{Name}
-use Rattle.program_listing.specs.ListingTree.{SurfaceTermTree, bare, applied, SurfaceTermTrees, no_surfaces, more_surfaces}
-use Rattle.program_listing.specs.ListingTree.{PlacedLine, branch_line, assignment_line}
+use Rattle.program_listing.specs.ListingTree.{SurfaceTermTree, bare, applied, SurfaceTermTrees, no_surfaces, more_surfaces, PlacedLine}
+use Rattle.program_listing.specs.ListingTree.{branch_line, assignment_line}
 use Rattle.program_listing.specs.LineText.{Piece, word, named, Place, Stand, argument_pieces, surface_pieces, surfaces_pieces, LineTree}
-use Rattle.program_listing.specs.LineText.{window}
-use Rattle.program_listing.specs.LineText.{node, state, update_pieces, set_pieces, listed_pieces, placed_pieces, equated_pieces}
-use Rattle.program_listing.specs.LineText.{left_pieces}
-use Rattle.program_listing.specs.LineText.{line_pieces, ended_pieces, line_is_within}
+use Rattle.program_listing.specs.LineText.{window, node, state, update_pieces, set_pieces, listed_pieces, placed_pieces, equated_pieces}
+use Rattle.program_listing.specs.LineText.{left_pieces, line_pieces, ended_pieces, line_is_within}
 use Rattle.program_listing.proofs.LinesRead.{IsLineAt}
 use Rattle.program_listing.proofs.Standing.{stand_append, stand_split}
 use Rattle.program_listing.proofs.WordsRead.{usable_run}

@@ -1,6 +1,6 @@
 -- The lines of program texts are read exactly.
-use Rattle.std.proofs.Common.{◌≡◌, ℕ, ◌+◌, ◌<◌, ◌^◌, Bool, true, false, not, ◌&&◌, List, [], ◌∷◌, ◌++◌, flat_map, codes, cond}
-use Rattle.std.proofs.Common.{decimal, Option, Some, None, option_and_then, IfSome, IsTrue, refl, sym, ap, subst, ◌∙◌, arith}
+use Rattle.std.proofs.Common.{◌≡◌, ℕ, ◌+◌, ◌<◌, ◌^◌, Bool, true, false, not, ◌&&◌, List, [], ◌∷◌, ◌++◌, flat_map, codes, cond, decimal}
+use Rattle.std.proofs.Common.{Option, Some, None, option_and_then, IfSome, IsTrue, refl, sym, ap, subst, ◌∙◌, arith}
 use Rattle.std.specs.Char.{is_ascii_digit}
 use Rattle.std.specs.List.{list_all}
 use Rattle.std.specs.Option.{is_some}
@@ -12,22 +12,18 @@ use Rattle.line_formats.proofs.FormatLaws.{and_then_some}
 use Rattle.program_listing.specs.ListingTree.{SurfaceTermTree, UpdateLine, ListedLine, PlacedLine, WindowLine, NodeLine, branch_line}
 use Rattle.program_listing.specs.ListingTree.{assignment_line}
 use Rattle.program_listing.specs.LineText.{Piece, word, Place, Stand, surface_pieces, LineTree, head_line, input, cell, output, window}
-use Rattle.program_listing.specs.LineText.{node}
-use Rattle.program_listing.specs.LineText.{state, end_line, update_pieces, set_pieces, listed_pieces, placed_pieces, equated_pieces}
-use Rattle.program_listing.specs.LineText.{left_pieces, window_pieces}
-use Rattle.program_listing.specs.LineText.{node_pieces, line_pieces, is_short, is_shallow, listed_is_within, placed_is_within}
-use Rattle.program_listing.specs.LineText.{left_is_within, window_is_within, node_is_within, line_is_within}
+use Rattle.program_listing.specs.LineText.{node, state, end_line, update_pieces, set_pieces, listed_pieces, placed_pieces, equated_pieces}
+use Rattle.program_listing.specs.LineText.{left_pieces, window_pieces, node_pieces, line_pieces, is_short, is_shallow, listed_is_within}
+use Rattle.program_listing.specs.LineText.{placed_is_within, left_is_within, window_is_within, node_is_within, line_is_within}
 use Rattle.program_listing.specs.internal.LineReading.{Shrinks, mapped, nothing, closed, either, value_at_end, begins, update, is_square}
 use Rattle.program_listing.specs.internal.LineReading.{update_follows, as_update, set_update, as_listed, listed, listed_follows, as_placed}
-use Rattle.program_listing.specs.internal.LineReading.{placed}
-use Rattle.program_listing.specs.internal.LineReading.{equated, left_side, as_window, window_rest, as_branch, branch_parts, as_assignment}
-use Rattle.program_listing.specs.internal.LineReading.{assignment_parts, node_rest, as_node, as_state, numbered_node, numbered_state, line}
-use Rattle.program_listing.specs.internal.LineReading.{read_line}
+use Rattle.program_listing.specs.internal.LineReading.{placed, equated, left_side, as_window, window_rest, as_branch, branch_parts}
+use Rattle.program_listing.specs.internal.LineReading.{as_assignment, assignment_parts, node_rest, as_node, as_state, numbered_node}
+use Rattle.program_listing.specs.internal.LineReading.{numbered_state, line, read_line}
 use Rattle.program_listing.proofs.Strips.{past_none}
 use Rattle.program_listing.proofs.Standing.{stand_split}
 use Rattle.program_listing.proofs.Exactly.{ReadAt, Reads, Any, if_mapped, at_front, nothing_reads, prefixed_reads, closed_reads}
-use Rattle.program_listing.proofs.Exactly.{mapped_reads}
-use Rattle.program_listing.proofs.Exactly.{either_sound, shrinks, pair_reads, repeat_reads}
+use Rattle.program_listing.proofs.Exactly.{mapped_reads, either_sound, shrinks, pair_reads, repeat_reads}
 use Rattle.program_listing.proofs.Numbers.{FirstDigit, first_digit}
 use Rattle.program_listing.proofs.WordsRead.{NoDigit, number_pieces, short_below, name_reads, number_reads}
 use Rattle.program_listing.proofs.SurfaceTermsRead.{EndsSurfaceTerm, surface_letter, surface_reads}

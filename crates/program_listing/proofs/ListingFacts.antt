@@ -11,12 +11,10 @@ use Rattle.tsl_text.specs.Names.{is_usable}
 use Rattle.tsl_terms.specs.Name.{AreDistinct}
 use Rattle.program_listing.specs.declared.listing.Name.{Name}
 use Rattle.program_listing.specs.ListingTree.{SurfaceTermTree, bare, applied, SurfaceTermTrees, no_surfaces, more_surfaces, UpdateLine}
-use Rattle.program_listing.specs.ListingTree.{ListedLine}
-use Rattle.program_listing.specs.ListingTree.{PlacedLine, WindowLine, NodeLine, branch_line, assignment_line, ListingTree}
+use Rattle.program_listing.specs.ListingTree.{ListedLine, PlacedLine, WindowLine, NodeLine, branch_line, assignment_line, ListingTree}
 use Rattle.program_listing.specs.LineText.{Piece, word, named, Place, Stand, argument_pieces, surface_pieces, surfaces_pieces, LineTree}
-use Rattle.program_listing.specs.LineText.{input}
-use Rattle.program_listing.specs.LineText.{cell, output, window, node, end_line, update_pieces, set_pieces, listed_pieces, placed_pieces}
-use Rattle.program_listing.specs.LineText.{equated_pieces, left_pieces, window_pieces, node_pieces, ended_pieces, is_shallow}
+use Rattle.program_listing.specs.LineText.{input, cell, output, window, node, end_line, update_pieces, set_pieces, listed_pieces}
+use Rattle.program_listing.specs.LineText.{placed_pieces, equated_pieces, left_pieces, window_pieces, node_pieces, ended_pieces, is_shallow}
 use Rattle.program_listing.specs.LineText.{is_short, listed_is_within, placed_is_within, left_is_within, window_is_within, node_is_within}
 use Rattle.program_listing.specs.LineText.{line_is_within, node_lines, listing_lines}
 use Rattle.program_listing.specs.Listing.{name_bytes, declared_entry, declared, IsListing}

@@ -1,6 +1,6 @@
 -- The order of lines: the lines of a listing are those that may stand one after another.
-use Rattle.std.proofs.Common.{◌≡◌, ℕ, suc, ◌+◌, ◌<◌, true, not, ◌&&◌, eqb, List, [], ◌∷◌, ◌++◌, length, map, flat_map}
-use Rattle.std.proofs.Common.{Some, None, option_and_then, refl, sym, ap, subst, ◌∙◌, append_assoc, arith, length-append}
+use Rattle.std.proofs.Common.{◌≡◌, ℕ, suc, ◌+◌, ◌<◌, true, not, ◌&&◌, eqb, List, [], ◌∷◌, ◌++◌, length, map, flat_map, Some, None}
+use Rattle.std.proofs.Common.{option_and_then, refl, sym, ap, subst, ◌∙◌, append_assoc, arith, length-append}
 use Rattle.std.proofs.lemmas.Bool.{and_parts, and_from, cond-true, eqb-true, eq-eqb, not-true, false≢true}
 use Rattle.std.proofs.lemmas.List.{append-nil, map-append}
 use Rattle.std.proofs.lemmas.Option.{none-some, same_Some, cond_some}
@@ -11,9 +11,8 @@ use Rattle.program_listing.specs.Listing.{declared}
 use Rattle.program_listing.specs.LineText.{LineTree, head_line, input, cell, output, window, node, state, end_line, node_lines, state_lines}
 use Rattle.program_listing.specs.LineText.{listing_lines}
 use Rattle.program_listing.specs.internal.LineOrder.{Progress, fresh, going, done, is_nil, no_node, no_window, no_output, no_cell}
-use Rattle.program_listing.specs.internal.LineOrder.{may_stand}
-use Rattle.program_listing.specs.internal.LineOrder.{progress_with, add, add_all, from_states, from_nodes, from_windows, from_outputs}
-use Rattle.program_listing.specs.internal.LineOrder.{from_cells, lines_with, lines_so_far, listing_of, declares}
+use Rattle.program_listing.specs.internal.LineOrder.{may_stand, progress_with, add, add_all, from_states, from_nodes, from_windows}
+use Rattle.program_listing.specs.internal.LineOrder.{from_outputs, from_cells, lines_with, lines_so_far, listing_of, declares}
 
 pub after_lines : (xs ys : List LineTree) (p q : Progress) → add_all xs p ≡ Some q → add_all (xs ++ ys) p ≡ add_all ys q
 after_lines [] ys p q e = ap (add_all ys) (same_Some p q e)

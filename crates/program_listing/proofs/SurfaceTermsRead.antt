@@ -5,8 +5,8 @@ use Rattle.std.specs.Char.{is_ascii_digit}
 use Rattle.std.specs.List.{list_all, prefix_len}
 use Rattle.std.proofs.Math.Seq.{drop-append_seam}
 use Rattle.std.proofs.Math.Nat.{le-max_left, le-max_right, max-le}
-use Rattle.std.proofs.lemmas.Bool.{and_parts, and_from, cond-true, cond-false, leb-true, le-leb, false_from_ne_true, or_right}
-use Rattle.std.proofs.lemmas.Bool.{ne_eqb, false≢true}
+use Rattle.std.proofs.lemmas.Bool.{and_parts, and_from, cond-true, cond-false, leb-true, le-leb, false_from_ne_true, or_right, ne_eqb}
+use Rattle.std.proofs.lemmas.Bool.{false≢true}
 use Rattle.std.proofs.lemmas.Option.{IfSome_then}
 use Rattle.sequence.proofs.Booleans.{same_tests}
 use Rattle.tsl_text.specs.Names.{is_name_start, is_name_byte, is_name_text, is_reserved, is_usable}
@@ -14,13 +14,11 @@ use Rattle.term_text.proofs.Fronts.{name_first, no_digit_begins, no_bracket_begi
 use Rattle.program_listing.specs.declared.listing.Name.{Name}
 use Rattle.program_listing.specs.ListingTree.{SurfaceTermTree, bare, applied, SurfaceTermTrees, no_surfaces, more_surfaces}
 use Rattle.program_listing.specs.LineText.{Piece, word, named, Place, Stand, argument_pieces, applied_pieces, surface_pieces}
-use Rattle.program_listing.specs.LineText.{surfaces_pieces}
-use Rattle.program_listing.specs.LineText.{bracketed_surface, surface_brackets, surfaces_brackets, is_shallow}
+use Rattle.program_listing.specs.LineText.{surfaces_pieces, bracketed_surface, surface_brackets, surfaces_brackets, is_shallow}
 use Rattle.program_listing.specs.internal.LineReading.{LineReader, Shrinks, mapped, nothing, either, begins, surfaces_of, is_open}
 use Rattle.program_listing.specs.internal.LineReading.{number_follows, argument_begins, argument_follows, tail_of, with_tail, tail}
-use Rattle.program_listing.specs.internal.LineReading.{surface_by}
-use Rattle.program_listing.specs.internal.LineReading.{short, argument_surface, spaced_argument, arguments, surface_with, has_arguments}
-use Rattle.program_listing.specs.internal.LineReading.{if_applied, only_applied, surface_in_brackets, surface}
+use Rattle.program_listing.specs.internal.LineReading.{surface_by, short, argument_surface, spaced_argument, arguments, surface_with}
+use Rattle.program_listing.specs.internal.LineReading.{has_arguments, if_applied, only_applied, surface_in_brackets, surface}
 use Rattle.program_listing.specs.internal.LineOrder.{is_nil}
 use Rattle.tsl_terms.specs.WellFormed.{deepest}
 use Rattle.program_listing.proofs.Strips.{past_none}

@@ -1,6 +1,5 @@
 -- The lines of a text lead to a listing exactly where it is that of the text.
-use Rattle.std.proofs.Common.{◌≡◌, ℕ, ◌+◌, ◌-◌, ◌<◌, ◌≤◌, Bool, true, false, ◌&&◌, List, [], ◌∷◌, ◌++◌, length, length-append, take}
-use Rattle.std.proofs.Common.{drop}
+use Rattle.std.proofs.Common.{◌≡◌, ℕ, ◌+◌, ◌-◌, ◌<◌, ◌≤◌, Bool, true, false, ◌&&◌, List, [], ◌∷◌, ◌++◌, length, length-append, take, drop}
 use Rattle.std.proofs.Common.{map, flat_map, codes, Option, Some, None, ◌⊎◌, inl, inr, slice_get, refl, sym, ap, subst, ◌∙◌, append_assoc}
 use Rattle.std.proofs.Common.{arith}
 use Rattle.std.specs.Prelude.{is_none, is_some, option_and_then, cond}
@@ -21,15 +20,14 @@ use Rattle.line_formats.proofs.FormatLaws.{and_then_some}
 use Rattle.program_listing.specs.declared.listing.Name.{Name}
 use Rattle.program_listing.specs.Listing.{declared_entry, declared, IsListing}
 use Rattle.program_listing.specs.ListingTree.{ListingTree}
-use Rattle.program_listing.specs.LineText.{word, named, Place, Stand, LineTree, input, cell, output}
-use Rattle.program_listing.specs.LineText.{ended_pieces, line_is_within, listing_lines}
+use Rattle.program_listing.specs.LineText.{word, named, Place, Stand, LineTree, input, cell, output, ended_pieces, line_is_within}
+use Rattle.program_listing.specs.LineText.{listing_lines}
 use Rattle.program_listing.specs.declared.rest.LineError.{LineError}
 use Rattle.program_listing.specs.declared.rest.LineError.TheVariants.{Form, NoMemory}
 use Rattle.program_listing.specs.internal.LineReading.{IsMisread, read_line}
-use Rattle.program_listing.specs.internal.LineOrder.{Progress, fresh, done, add, add_all}
-use Rattle.program_listing.specs.internal.LineOrder.{declares, ListingState, start, whole, step, step_at, IsRepeated}
-use Rattle.program_listing.specs.internal.LineOrder.{is_done, entry_in, entries_in, are_new, state_after, if_new, with_line, LiesIn}
-use Rattle.program_listing.specs.internal.LineOrder.{DeclaresIn}
+use Rattle.program_listing.specs.internal.LineOrder.{Progress, fresh, done, add, add_all, declares, ListingState, start, whole, step}
+use Rattle.program_listing.specs.internal.LineOrder.{step_at, IsRepeated, is_done, entry_in, entries_in, are_new, state_after, if_new}
+use Rattle.program_listing.specs.internal.LineOrder.{with_line, LiesIn, DeclaresIn}
 use Rattle.program_listing.proofs.LineFeeds.{ended_line, line_before_feed}
 use Rattle.program_listing.proofs.LinesRead.{IsLineAt, line_sound, line_complete}
 use Rattle.program_listing.proofs.ListingFacts.{listing_from}

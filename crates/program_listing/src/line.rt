@@ -3,12 +3,10 @@
 ghost use Rattle.std.specs.Prelude.{◌≡◌, ◌∷◌, ◌++◌, codes, map, option_map, Some, None, IfOk, IfErr, IfSome, IfNone};
 ghost use Rattle.tsl_text.specs.Lines.{has_bytes};
 ghost use Rattle.program_listing.specs.ListingTree.{surface_tree, update_line, listed_line, placed_line, window_line, node_line};
-ghost use Rattle.program_listing.specs.internal.LineReading.{left_place, IsMisread, IsReadAs, IsUnread, past, prefixed, repeat};
-ghost use Rattle.program_listing.specs.internal.LineReading.{first_name, first_number, surface, line_tree, line, update};
-ghost use Rattle.program_listing.specs.internal.LineReading.{update_follows, set_update, listed, listed_follows, placed, equated};
-ghost use Rattle.program_listing.specs.internal.LineReading.{left_side};
-ghost use Rattle.program_listing.specs.internal.LineReading.{window_rest, branch_rest, assignment_rest, node_rest, numbered_node};
-ghost use Rattle.program_listing.specs.internal.LineReading.{numbered_state, read_line};
+ghost use Rattle.program_listing.specs.internal.LineReading.{left_place, IsMisread, IsReadAs, IsUnread, past, prefixed, repeat, first_name};
+ghost use Rattle.program_listing.specs.internal.LineReading.{first_number, surface, line_tree, line, update, update_follows, set_update};
+ghost use Rattle.program_listing.specs.internal.LineReading.{listed, listed_follows, placed, equated, left_side, window_rest, branch_rest};
+ghost use Rattle.program_listing.specs.internal.LineReading.{assignment_rest, node_rest, numbered_node, numbered_state, read_line};
 
 use crate::listing::{
     Name, SpelledListed, SpelledNode, SpelledPlaced, SpelledUpdate, SpelledWindow, SurfaceTerm,

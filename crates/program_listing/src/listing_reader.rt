@@ -1,17 +1,15 @@
 //! The lines of a program text are read one after another.
 
 ghost use Rattle.std.specs.Prelude.{◌≡◌, ℕ, ◌+◌, ◌<◌, ◌^◌, ◌++◌, ◌∷◌, [], true, false, is_none, is_some, length, None, Ok, Err, IfOk};
-ghost use Rattle.std.specs.Prelude.{IfErr};
-ghost use Rattle.std.specs.Prelude.{OnOk, IfSome, IfNone, Some};
+ghost use Rattle.std.specs.Prelude.{IfErr, OnOk, IfSome, IfNone, Some};
 ghost use Rattle.tsl_terms.specs.Name.{number_of};
 ghost use Rattle.program_listing.specs.ListingTree.{listing_tree};
 ghost use Rattle.program_listing.specs.Listing.{IsListing};
 ghost use Rattle.program_listing.specs.ListingFault.{HasListingFault};
 ghost use Rattle.program_listing.specs.internal.LineReading.{left_place, line_tree, IsMisread};
 ghost use Rattle.program_listing.specs.internal.LineOrder.{ListingState, start, step, whole, is_done, no_node, no_window, no_output};
-ghost use Rattle.program_listing.specs.internal.LineOrder.{no_cell, may_stand};
-ghost use Rattle.program_listing.specs.internal.LineOrder.{add, declares, entries_in, are_new, progress_of, reader_state, DeclaresIn};
-ghost use Rattle.program_listing.specs.internal.LineOrder.{IsRepeated};
+ghost use Rattle.program_listing.specs.internal.LineOrder.{no_cell, may_stand, add, declares, entries_in, are_new, progress_of};
+ghost use Rattle.program_listing.specs.internal.LineOrder.{reader_state, DeclaresIn, IsRepeated};
 
 use crate::line::{Line, read_line};
 use crate::listing::{ListingError, Name, ProgramSyntax};
