@@ -142,43 +142,35 @@ grows l head_line h = absurd (false≢true h)
 grows l (input n) h =
     let parts = and_parts (is_nil l.cells) (no_output l) h in
     grows_by l (input n)
-    (ap (λ (ts : List LineTree). head_line ∷ ts)
-    (section_end (map input) l.inputs n (input n) (from_cells l) (map-append input l.inputs (n ∷ [])) (λ ts. no_cells l ts h)))
+    (rw (section_end (map input) l.inputs n (input n) (from_cells l) (map-append input l.inputs (n ∷ [])) (λ ts. no_cells l ts h)))
     (rw (nil_is l.cells parts.0, nil_is l.outputs (and_parts (is_nil l.outputs) (no_window l) parts.1).0) (simp append-nil))
     (λ valid. valid)
 grows l (cell n) h =
     grows_by l (cell n)
-    (ap (λ (ts : List LineTree). head_line ∷ (map input l.inputs ++ ts))
-    (section_end (map cell) l.cells n (cell n) (from_outputs l) (map-append cell l.cells (n ∷ [])) (λ ts. no_outputs l ts h)))
+    (rw (section_end (map cell) l.cells n (cell n) (from_outputs l) (map-append cell l.cells (n ∷ [])) (λ ts. no_outputs l ts h)))
     (rw (nil_is l.outputs (and_parts (is_nil l.outputs) (no_window l) h).0) (simp (append-nil, append_assoc)))
     (λ valid. valid)
 grows l (output n) h =
     grows_by l (output n)
-    (ap (λ (ts : List LineTree). head_line ∷ (map input l.inputs ++ (map cell l.cells ++ ts)))
-    (section_end (map output) l.outputs n (output n) (from_windows l) (map-append output l.outputs (n ∷ [])) (λ ts. no_windows l ts h)))
+    (rw (section_end (map output) l.outputs n (output n) (from_windows l) (map-append output l.outputs (n ∷ [])) (λ ts. no_windows l ts h)))
     (simp append_assoc) (λ valid. valid)
 grows l (window w) h =
     grows_by l (window w)
-    (ap (λ (ts : List LineTree). head_line ∷ (map input l.inputs ++ (map cell l.cells ++ (map output l.outputs ++ ts))))
-    (section_end (map window) l.windows w (window w) (from_nodes l) (map-append window l.windows (w ∷ [])) (λ ts. no_nodes l ts h)))
+    (rw (section_end (map window) l.windows w (window w) (from_nodes l) (map-append window l.windows (w ∷ [])) (λ ts. no_nodes l ts h)))
     (sym (append-nil (declared l))) (λ valid. valid)
 grows l (node i n) h =
     let parts = and_parts (eqb i (length l.nodes)) (is_nil l.states) h in
     let next : i ≡ length l.nodes = eqb-true i (length l.nodes) parts.0 in
     let push = section_push node node_lines (λ i. refl) (λ i x xs. refl) 0 i l.nodes n (omega (arith, next)) in
     grows_by l (node i n)
-    (ap (λ (ts : List LineTree). head_line ∷ (map input l.inputs ++ (map cell l.cells ++ (map output l.outputs
-    ++ (map window l.windows ++ ts)))))
-    (section_end (node_lines 0) l.nodes n (node i n) (from_states l) push (λ ts. no_states l ts parts.1)))
+    (rw (section_end (node_lines 0) l.nodes n (node i n) (from_states l) push (λ ts. no_states l ts parts.1)))
     (sym (append-nil (declared l))) (λ valid k. absurd (pushed l.nodes n k))
 grows l (state i n) h =
     let parts = and_parts (eqb i (length l.states)) (not (is_nil l.nodes)) h in
     let next : i ≡ length l.states = eqb-true i (length l.states) parts.0 in
     let push = section_push state state_lines (λ i. refl) (λ i x xs. refl) 0 i l.states n (omega (arith, next)) in
     grows_by l (state i n)
-    (ap (λ (ts : List LineTree). head_line ∷ (map input l.inputs ++ (map cell l.cells ++ (map output l.outputs ++ (map window l.windows
-    ++ (node_lines 0 l.nodes ++ ts))))))
-    (section_end (state_lines 0) l.states n (state i n) (λ ts. ts) push (λ ts. refl)))
+    (rw (section_end (state_lines 0) l.states n (state i n) (λ ts. ts) push (λ ts. refl)))
     (sym (append-nil (declared l))) (λ valid k. absurd (false≢true (sym (not-true (is_nil l.nodes) parts.1) ∙ k)))
 grows l end_line h =
     let parts = and_parts (not (is_nil l.nodes)) (not (is_nil l.states)) h in
