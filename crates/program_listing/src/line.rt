@@ -1,9 +1,9 @@
 //! The lines of program texts, each by itself.
 
-ghost use Rattle.std.specs.Prelude.{◌≡◌, ◌∷◌, ◌++◌, codes, map, option_map, Some, None, IfOk, IfErr, IfSome, IfNone};
+ghost use Rattle.std.specs.Prelude.{◌≡◌, option_map, Some, None, IfOk, IfErr};
 ghost use Rattle.tsl_text.specs.Lines.{has_bytes};
 ghost use Rattle.program_listing.specs.ListingTree.{surface_tree, update_line, listed_line, placed_line, window_line, node_line};
-ghost use Rattle.program_listing.specs.internal.LineReading.{left_place, IsMisread, IsReadAs, IsUnread, past, prefixed, repeat, first_name};
+ghost use Rattle.program_listing.specs.internal.LineReading.{left_place, IsMisread, IsReadAs, IsUnread, past, prefixed, first_name};
 ghost use Rattle.program_listing.specs.internal.LineReading.{first_number, surface, line_tree, line, update, update_follows, set_update};
 ghost use Rattle.program_listing.specs.internal.LineReading.{listed, listed_follows, placed, equated, left_side, window_rest, branch_rest};
 ghost use Rattle.program_listing.specs.internal.LineReading.{assignment_rest, node_rest, numbered_node, numbered_state, read_line};
@@ -120,7 +120,7 @@ fn listed_follows(bytes: &[u8]) -> bool
 }
 
 /// Whether there is a byte.
-pub fn has_bytes(bytes: &[u8]) -> bool
+fn has_bytes(bytes: &[u8]) -> bool
     ensures { result ≡ has_bytes bytes.now }
 {
     !matches!(bytes, [])

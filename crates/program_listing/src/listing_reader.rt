@@ -1,7 +1,7 @@
 //! The lines of a program text are read one after another.
 
-ghost use Rattle.std.specs.Prelude.{◌≡◌, ℕ, ◌+◌, ◌<◌, ◌^◌, ◌++◌, ◌∷◌, [], true, false, is_none, is_some, length, None, Ok, Err, IfOk};
-ghost use Rattle.std.specs.Prelude.{IfErr, OnOk, IfSome, IfNone, Some};
+ghost use Rattle.std.specs.Prelude.{◌≡◌, ◌+◌, ◌<◌, ◌^◌, ◌++◌, ◌∷◌, [], true, false, is_none, is_some, length, None, Ok, Err, IfOk, IfErr};
+ghost use Rattle.std.specs.Prelude.{OnOk, IfSome, IfNone, Some};
 ghost use Rattle.tsl_terms.specs.Name.{number_of};
 ghost use Rattle.program_listing.specs.ListingTree.{listing_tree};
 ghost use Rattle.program_listing.specs.Listing.{IsListing};
