@@ -11,18 +11,19 @@ use Rattle.program_listing.specs.Listing.{IsListing, BeginAlike, FormFault}
 use Rattle.program_listing.specs.ListingTree.{NodeLine, assignment_line, ListingTree, empty_listing}
 use Rattle.program_listing.specs.LineText.{LineTree, head_line, node, state, end_line}
 use Rattle.program_listing.specs.internal.LineReading.{repeat, repeat_most, read_line}
-use Rattle.program_listing.specs.internal.LineOrder.{Progress, fresh, going, done, is_nil, is_done, add, listing_of, declares, entry_in}
-use Rattle.program_listing.specs.internal.LineOrder.{are_new, state_after, ListingState, start, whole, step}
-use Rattle.program_listing.proofs.TextLines.{Told, told_start, told_more, step_is, listing_of_lines, listing_leads, leads_to_text}
+use Rattle.program_listing.specs.internal.LineOrder.{Progress, fresh, going, done, is_nil, is_done, add, declares, entry_in, are_new}
+use Rattle.program_listing.specs.internal.LineOrder.{state_after, ListingState, start, whole, step}
+use Rattle.program_listing.proofs.OrderOfLines.{IsInOrder, grown}
+use Rattle.program_listing.proofs.TextLines.{stepped, step_is, listing_of_lines, listing_leads}
 
 -- ---- a line that goes on
 
--- what lines lead to
 abbrev Reached : ListingState → Type 0
-Reached s = (ls : List (List ℕ)) × Told ls s
+Reached s = IsInOrder s.progress
 
 kept : (s t : ListingState) (l : List ℕ) → Reached s → step s l ≡ Some t → Reached t
-kept s t l r h = (r.0 ++ l ∷ [], told_more r.0 s t l r.1 h)
+kept s t l r h =
+    let st = stepped s t l h in subst Reached st.is ((grown s.progress st.tree st.progress st.added).in_order r)
 
 abbrev nothing_to_do : NodeLine
 nothing_to_do = assignment_line [] 0
@@ -54,46 +55,35 @@ by_line s p q bytes tree e lined read none added less = record {
   less = subst (λ (n : ℕ). left_to_do q < n) (sym (ap left_to_do e)) less;
 }
 
-head_read : (at : ℕ) → read_line (record { at = at; bytes = codes "tslprogram 1" }) ≡ Some head_line
-head_read at = refl
-
 node_read : (at : ℕ) → read_line (record { at = at; bytes = codes "node 0 set go 0" }) ≡ Some (node 0 nothing_to_do)
 unfolding repeat repeat_most
 node_read at = refl
 
-state_read : (at : ℕ) → read_line (record { at = at; bytes = codes "state 0 at 0" }) ≡ Some (state 0 0)
-state_read at = refl
-
-end_read : (at : ℕ) → read_line (record { at = at; bytes = codes "end" }) ≡ Some end_line
-end_read at = refl
-
 goes : (s : ListingState) → Reached s → (whole s ≡ true) ⊎ Goes step whole Reached measure s
-goes s r = by s.progress refl r.1.made.valid where
-  by_lists : (l : ListingTree) (nodes : List NodeLine) (states : List ℕ) → s.progress ≡ going (record l { nodes = nodes; states = states }) →
+goes s r = by s.progress refl r where
+  by_lists : (l : ListingTree) (nodes : List NodeLine) (states : List ℕ) →
+      s.progress ≡ going (record l { nodes = nodes; states = states }) →
       (is_nil nodes ≡ true → is_nil states ≡ true) → Goes step whole Reached measure s
   by_lists l [] [] e valid =
       by_line s _ (going (record l { nodes = nothing_to_do ∷ []; states = [] })) (codes "node 0 set go 0") (node 0 nothing_to_do) e refl
       (node_read s.at) refl refl (omega arith)
   by_lists l [] (k ∷ states) e valid = absurd (false≢true (valid refl))
   by_lists l (n ∷ nodes) [] e valid =
-      by_line s _ (going (record l { nodes = n ∷ nodes; states = 0 ∷ [] })) (codes "state 0 at 0") (state 0 0) e refl (state_read s.at) refl
+      by_line s _ (going (record l { nodes = n ∷ nodes; states = 0 ∷ [] })) (codes "state 0 at 0") (state 0 0) e refl refl refl
       refl (omega arith)
   by_lists l (n ∷ nodes) (k ∷ states) e valid =
-      by_line s _ (done (record l { nodes = n ∷ nodes; states = k ∷ states })) (codes "end") end_line e refl (end_read s.at) refl refl
+      by_line s _ (done (record l { nodes = n ∷ nodes; states = k ∷ states })) (codes "end") end_line e refl refl refl refl
       (omega arith)
 
-  by : (p : Progress) → s.progress ≡ p → (is_nil (listing_of s.progress).nodes ≡ true → is_nil (listing_of s.progress).states ≡ true) →
-      (whole s ≡ true) ⊎ Goes step whole Reached measure s
+  by : (p : Progress) → s.progress ≡ p → IsInOrder p → (whole s ≡ true) ⊎ Goes step whole Reached measure s
   by fresh e valid =
-      inr (by_line s fresh (going empty_listing) (codes "tslprogram 1") head_line e refl (head_read s.at) refl refl (omega arith))
+      inr (by_line s fresh (going empty_listing) (codes "tslprogram 1") head_line e refl refl refl refl (omega arith))
   by (done l) e valid = inl (ap is_done e)
-  by (going l) e valid =
-      let P : Progress → Type 0 = λ x. is_nil (listing_of x).nodes ≡ true → is_nil (listing_of x).states ≡ true in
-      inr (by_lists l l.nodes l.states e (subst P e valid))
+  by (going l) e valid = inr (by_lists l l.nodes l.states e valid)
 
 live : IsLive step whole start Reached
 live = record {
-  first = ([], told_start);
+  first = tt;
   kept = kept;
   ends = λ s r. ends_by step whole Reached measure kept goes (suc (measure s)) s (omega arith) r;
 }
@@ -126,7 +116,7 @@ first_fault text number h =
         other_is = text_append w.before w.ending;
       };
       here = λ another m is b. here w another m is b;
-      none = λ m is. let r = listing_leads text m is in w.none r.lines r.end (leads_to_text text m r) r.split;
+      none = λ m is. let r = listing_leads text m is in w.none r.lines r.end r.is_text r.split;
     }
   where
     here : (w : IsFirstWrong step whole start text number) (another : List ℕ) (m : ListingTree) → IsListing another m →
@@ -135,8 +125,8 @@ first_fault text number h =
         let r = listing_leads another m is in
         let front = all_front is_line w.before w.ending w.goes_on.lines in
         let next = one_more_line w.before b.lines b.after_text w.after front b.are_lines (b.number ∙ w.number) (sym b.text_is ∙ w.split) in
-        let more = lines_begin b.lines r.lines b.after_other b.are_lines r.are_lines (sym r.split ∙ b.other_is) in
+        let more = lines_begin b.lines r.lines b.after_other b.are_lines r.is_text.lines (sym r.split ∙ b.other_is) in
         let order : r.lines ≡ w.before ++ next.0 ∷ more.0 =
         more.1 ∙ ap (λ (ls : List (List ℕ)). ls ++ more.0) next.2 ∙ append_assoc w.before (next.0 ∷ []) more.0 in
         let P : List (List ℕ) → Type 0 = λ ls. IsText step whole start ls r.end in
-        w.here next.0 b.after_text more.0 r.end next.3 next.1 (subst P order (leads_to_text another m r))
+        w.here next.0 b.after_text more.0 r.end next.3 next.1 (subst P order r.is_text)

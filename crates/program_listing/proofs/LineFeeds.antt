@@ -1,78 +1,51 @@
 -- A line has no line feed within it, and is read alike whatever follows it.
-use Rattle.std.proofs.Common.{◌≡◌, ℕ, suc, ◌+◌, ◌<◌, ◌^◌, Bool, true, false, not, ◌&&◌, cond, eqb, ltb, List, [], ◌∷◌, ◌++◌, length}
-use Rattle.std.proofs.Common.{length-append, take, drop, flat_map, codes, decimal, Option, Some, None, IsTrue, refl, sym, ap, subst, ◌∙◌}
-use Rattle.std.proofs.Common.{append_assoc, arith}
-use Rattle.std.specs.Char.{is_ascii_digit}
-use Rattle.std.specs.List.{list_all, prefix_len}
-use Rattle.std.proofs.lemmas.Bool.{and_parts, and_from, eqb-true, ltb-true, false≢true, false_from_ne_true}
+use Rattle.std.proofs.Common.{◌≡◌, ℕ, zero, suc, ◌+◌, ◌/◌, ◌%◌, Bool, true, false, not, cond, eqb, ltb, List, [], ◌∷◌, ◌++◌, length}
+use Rattle.std.proofs.Common.{length-append, flat_map, codes, decimal, Option, Some, None, IsTrue, refl, sym, ap, subst, ◌∙◌, append_assoc}
+use Rattle.std.proofs.Common.{arith}
+use Rattle.std.specs.Fmt.{digits, digits_onto, digit_glyph}
+use Rattle.std.specs.List.{list_all}
+use Rattle.std.proofs.lemmas.Bool.{and_parts, and_from, eqb-true, ne_eqb, false≢true, false_from_ne_true}
 use Rattle.std.proofs.lemmas.List.{append-nil}
-use Rattle.std.proofs.lemmas.List.Folds.{length-prefix_len}
-use Rattle.std.proofs.lemmas.Option.{none-some, same_Some}
-use Rattle.sequence.proofs.Passes.{list_all_weaker}
+use Rattle.std.proofs.lemmas.List.Folds.{list_all-append}
+use Rattle.sequence.proofs.Passes.{list_all_joined, list_all_weaker}
 use Rattle.tsl_text.specs.Lines.{is_line_byte}
 use Rattle.tsl_text.specs.Names.{is_name_byte, is_usable}
 use Rattle.tsl_text.specs.Written.{is_line}
-use Rattle.tsl_text.proofs.LineLaws.{split_feed}
-use Rattle.tsl_text.proofs.NumberLaws.{decimal_digits}
 use Rattle.program_listing.specs.declared.listing.Name.{Name}
-use Rattle.program_listing.specs.ListingTree.{SurfaceTermTree, bare, applied, SurfaceTermTrees, no_surfaces, more_surfaces, UpdateLine, ListedLine}
-use Rattle.program_listing.specs.ListingTree.{PlacedLine, WindowLine, NodeLine, branch_line, assignment_line}
-use Rattle.program_listing.specs.LineText.{
-  Piece,
-  word,
-  named,
-  Place,
-  Stand,
-  argument_pieces,
-  surface_pieces,
-  surfaces_pieces,
-  LineTree,
-  head_line,
-  input,
-  cell,
-  output,
-  window,
-  node,
-  state,
-  end_line,
-  update_pieces,
-  set_pieces,
-  listed_pieces,
-  placed_pieces,
-  equated_pieces,
-  left_pieces,
-  window_pieces,
-  node_pieces,
-  line_pieces,
-  ended_pieces,
-  is_short,
-  is_shallow,
-  listed_is_within,
-  placed_is_within,
-  left_is_within,
-  window_is_within,
-  node_is_within,
-  line_is_within,
-}
-use Rattle.program_listing.specs.internal.LineReading.{skipped}
-use Rattle.program_listing.specs.internal.LineOrder.{cut}
+use Rattle.program_listing.specs.ListingTree.{SurfaceTermTree, bare, applied, SurfaceTermTrees, no_surfaces, more_surfaces, PlacedLine}
+use Rattle.program_listing.specs.ListingTree.{branch_line, assignment_line}
+use Rattle.program_listing.specs.LineText.{Piece, word, named, Place, Stand, argument_pieces, surface_pieces, surfaces_pieces, LineTree}
+use Rattle.program_listing.specs.LineText.{window, node, state, update_pieces, set_pieces, listed_pieces, placed_pieces, equated_pieces}
+use Rattle.program_listing.specs.LineText.{left_pieces, line_pieces, ended_pieces, line_is_within}
 use Rattle.program_listing.proofs.LinesRead.{IsLineAt}
 use Rattle.program_listing.proofs.Standing.{stand_append, stand_split}
-use Rattle.program_listing.proofs.WordsRead.{short_below, usable_run}
+use Rattle.program_listing.proofs.WordsRead.{usable_run}
 
 -- ---- bytes of a line
 
--- a byte that passes a test that a line feed fails
-other_byte : (p : ℕ → Bool) → p 10 ≡ false → (byte : ℕ) → p byte ≡ true → is_line_byte byte ≡ true
-other_byte p feed byte h = ap not (false_from_ne_true (eqb byte 10) (λ e. false≢true (sym feed ∙ ap p (sym (eqb-true byte 10 e)) ∙ h)))
-
 name_is_line : (name : List ℕ) → IsTrue (is_usable name) → is_line name ≡ true
-name_is_line name h = list_all_weaker is_name_byte is_line_byte (other_byte is_name_byte refl) name (usable_run name h)
+name_is_line name h = list_all_weaker is_name_byte is_line_byte other name (usable_run name h) where
+  other : (byte : ℕ) → is_name_byte byte ≡ true → is_line_byte byte ≡ true
+  other byte fits = ap not (false_from_ne_true (eqb byte 10) (λ e. false≢true (ap is_name_byte (sym (eqb-true byte 10 e)) ∙ fits)))
 
-decimal_is_line : (n : ℕ) → IsTrue (is_short n) → is_line (decimal n) ≡ true
-decimal_is_line n h =
-    let below : n < 10 ^ 18 = short_below n h in
-    list_all_weaker is_ascii_digit is_line_byte (other_byte is_ascii_digit refl) (decimal n) (decimal_digits n (omega (arith, below)))
+-- a number has digits alone
+digits_are_line : (k n : ℕ) (acc : List ℕ) → is_line acc ≡ true → is_line (digits_onto k 10 false n acc) ≡ true
+digits_are_line zero n acc h = h
+digits_are_line (suc k) n acc h = by _ _ (eqb (n / 10) 0) more (digits_are_line k (n / 10) (digit_glyph false (n % 10) ∷ acc) more) where
+  glyph : (t : Bool) (d : ℕ) → is_line_byte (cond t (48 + d) (87 + d)) ≡ true
+  glyph true d = ap not (ne_eqb (48 + d) 10 (λ e. omega (arith, e)))
+  glyph false d = ap not (ne_eqb (87 + d) 10 (λ e. omega (arith, e)))
+
+  more : is_line (digit_glyph false (n % 10) ∷ acc) ≡ true
+  more = and_from (is_line_byte (digit_glyph false (n % 10))) (is_line acc) (glyph (ltb (n % 10) 10) (n % 10)) h
+
+  by : (xs ys : List ℕ) (t : Bool) → is_line xs ≡ true → is_line ys ≡ true → is_line (cond t xs ys) ≡ true
+  by xs ys true x y = x
+  by xs ys false x y = y
+
+decimal_is_line : (n : ℕ) → is_line (decimal n) ≡ true
+unfolding digits
+decimal_is_line n = digits_are_line 64 n [] refl
 
 -- ---- pieces of a line
 
@@ -83,21 +56,10 @@ is_lined (named n) = true
 abbrev pub are_lined : List Piece → Bool
 are_lined xs = list_all is_lined xs
 
-lined_append : (xs ys : List Piece) → are_lined xs ≡ true → are_lined ys ≡ true → are_lined (xs ++ ys) ≡ true
-lined_append [] ys h k = k
-lined_append (x ∷ xs) ys h k =
-    let parts = and_parts (is_lined x) (are_lined xs) h in
-    and_from (is_lined x) (are_lined (xs ++ ys)) parts.0 (lined_append xs ys parts.1 k)
-
-lined_many : {A : Type 0} (pieces : A → List Piece) (good : A → Bool) → ((a : A) → good a ≡ true → are_lined (pieces a) ≡ true) →
-    (as' : List A) → list_all good as' ≡ true → are_lined (flat_map pieces as') ≡ true
-lined_many pieces good each [] h = refl
-lined_many pieces good each (a ∷ as') h =
-    let parts = and_parts (good a) (list_all good as') h in
-    lined_append (pieces a) (flat_map pieces as') (each a parts.0) (lined_many pieces good each as' parts.1)
-
-number_lined : (n : ℕ) (xs : List Piece) → IsTrue (is_short n) → are_lined xs ≡ true → are_lined (word (decimal n) ∷ xs) ≡ true
-number_lined n xs h k = and_from (is_line (decimal n)) (are_lined xs) (decimal_is_line n h) k
+lined_many : {A : Type 0} (pieces : A → List Piece) → ((a : A) → are_lined (pieces a) ≡ true) → (as' : List A) →
+    are_lined (flat_map pieces as') ≡ true
+lined_many pieces each [] = refl
+lined_many pieces each (a ∷ as') = list_all_joined is_lined (pieces a) (flat_map pieces as') (each a) (lined_many pieces each as')
 
 mutual
   surface_lined : (v : SurfaceTermTree) → are_lined (surface_pieces v) ≡ true
@@ -108,69 +70,36 @@ mutual
   surfaces_lined : (vs : SurfaceTermTrees) → are_lined (surfaces_pieces vs) ≡ true
   surfaces_lined no_surfaces = refl
   surfaces_lined (more_surfaces v vs) =
-      lined_append (argument_pieces v (surface_pieces v)) (surfaces_pieces vs) (argument_lined v) (surfaces_lined vs)
+      list_all_joined is_lined (argument_pieces v (surface_pieces v)) (surfaces_pieces vs) (argument_lined v) (surfaces_lined vs)
 
   argument_lined : (v : SurfaceTermTree) → are_lined (argument_pieces v (surface_pieces v)) ≡ true
   argument_lined (bare n) = refl
   argument_lined (applied n no_surfaces) = refl
   argument_lined (applied n (more_surfaces v vs)) =
-      lined_append (surfaces_pieces (more_surfaces v vs)) (word (codes ")") ∷ []) (surfaces_lined (more_surfaces v vs)) refl
+      list_all_joined is_lined (surfaces_pieces (more_surfaces v vs)) (word (codes ")") ∷ []) (surfaces_lined (more_surfaces v vs)) refl
 
 update_lined : (n : Name) (v : SurfaceTermTree) → are_lined (update_pieces n v) ≡ true
-update_lined n v = lined_append (surface_pieces v) (word (codes "]") ∷ []) (surface_lined v) refl
+update_lined n v = simp (list_all-append, surface_lined)
 
-listed_lined : (u : ListedLine) → listed_is_within u ≡ true → are_lined (listed_pieces u) ≡ true
-listed_lined u h =
-    lined_append (update_pieces u.signal u.term) (word (codes " at ") ∷ word (decimal u.offset) ∷ []) (update_lined u.signal u.term)
-    (number_lined u.offset [] (and_parts (is_shallow u.term) (is_short u.offset) h).1 refl)
+placed_lined : (t : PlacedLine) → are_lined (placed_pieces t) ≡ true
+placed_lined t = simp (list_all-append, surface_lined, decimal_is_line)
 
-placed_lined : (t : PlacedLine) → placed_is_within t ≡ true → are_lined (placed_pieces t) ≡ true
-placed_lined t h =
-    lined_append (surface_pieces t.test) (word (codes " at ") ∷ word (decimal t.step) ∷ []) (surface_lined t.test)
-    (number_lined t.step [] (and_parts (is_shallow t.test) (is_short t.step) h).1 refl)
+left_lined : (left : Option PlacedLine) → are_lined (left_pieces left) ≡ true
+left_lined None = refl
+left_lined (Some t) = simp (list_all-append, surface_lined, decimal_is_line)
 
-left_lined : (left : Option PlacedLine) → left_is_within left ≡ true → are_lined (left_pieces left) ≡ true
-left_lined None h = refl
-left_lined (Some t) h = lined_append (placed_pieces t) (word (codes " is ") ∷ []) (placed_lined t h) refl
-
-window_lined : (w : WindowLine) → window_is_within w ≡ true → are_lined (window_pieces w) ≡ true
-window_lined w h =
-    let listed = list_all listed_is_within w.updates && list_all placed_is_within w.equalities in
-    let parts = and_parts (left_is_within w.left) (placed_is_within w.right && listed) h in
-    let rest = and_parts (placed_is_within w.right) listed parts.1 in
-    let both = and_parts (list_all listed_is_within w.updates) (list_all placed_is_within w.equalities) rest.1 in
-    let tail = flat_map listed_pieces w.updates ++ flat_map equated_pieces w.equalities in
-    lined_append (left_pieces w.left) (placed_pieces w.right ++ tail) (left_lined w.left parts.0)
-    (lined_append (placed_pieces w.right) tail (placed_lined w.right rest.0)
-    (lined_append (flat_map listed_pieces w.updates) (flat_map equated_pieces w.equalities)
-    (lined_many listed_pieces listed_is_within listed_lined w.updates both.0)
-    (lined_many equated_pieces placed_is_within placed_lined w.equalities both.1)))
-
-node_lined : (n : NodeLine) → node_is_within n ≡ true → are_lined (node_pieces n) ≡ true
-node_lined (branch_line v a b) h =
-    let parts = and_parts (is_shallow v) (is_short a && is_short b) h in
-    let numbers = and_parts (is_short a) (is_short b) parts.1 in
-    lined_append (surface_pieces v) (word (codes " then ") ∷ word (decimal a) ∷ word (codes " else ") ∷ word (decimal b) ∷ [])
-    (surface_lined v)
-    (number_lined a (word (codes " else ") ∷ word (decimal b) ∷ []) numbers.0 (number_lined b [] numbers.1 refl))
-node_lined (assignment_line us go) h =
-    let parts = and_parts (list_all (λ (u : UpdateLine). is_shallow u.term) us) (is_short go) h in
-    lined_append (flat_map set_pieces us) (word (codes " go ") ∷ word (decimal go) ∷ [])
-    (lined_many set_pieces (λ u. is_shallow u.term) (λ u k. update_lined u.signal u.term) us parts.0) (number_lined go [] parts.1 refl)
-
-pub line_lined : (t : LineTree) → line_is_within t ≡ true → are_lined (line_pieces t) ≡ true
-line_lined head_line h = refl
-line_lined (input n) h = refl
-line_lined (cell n) h = refl
-line_lined (output n) h = refl
-line_lined (window w) h = window_lined w h
-line_lined (node i n) h =
-    let parts = and_parts (is_short i) (node_is_within n) h in
-    number_lined i (node_pieces n) parts.0 (node_lined n parts.1)
-line_lined (state i n) h =
-    let parts = and_parts (is_short i) (is_short n) h in
-    number_lined i (word (codes " at ") ∷ word (decimal n) ∷ []) parts.0 (number_lined n [] parts.1 refl)
-line_lined end_line h = refl
+pub line_lined : (t : LineTree) → are_lined (line_pieces t) ≡ true
+line_lined (window w) =
+    list_all_joined is_lined (left_pieces w.left) _ (left_lined w.left)
+    (list_all_joined is_lined (placed_pieces w.right) _ (placed_lined w.right)
+    (list_all_joined is_lined (flat_map listed_pieces w.updates) _
+    (lined_many listed_pieces (λ u. simp (list_all-append, surface_lined, decimal_is_line)) w.updates)
+    (lined_many equated_pieces placed_lined w.equalities)))
+line_lined (node i (branch_line v a b)) = simp (list_all-append, surface_lined, decimal_is_line)
+line_lined (node i (assignment_line us go)) =
+    simp (list_all-append, lined_many set_pieces (λ u. update_lined u.signal u.term), decimal_is_line)
+line_lined (state i n) = simp decimal_is_line
+line_lined _ = refl
 
 -- ---- what stands does so whatever follows
 
@@ -182,147 +111,70 @@ pub record Span (xs : List Piece) (p q : Place) : Type 0 where
   pub end : q.at ≡ p.at + length bytes
   pub moves : (rest : List ℕ) → Stand xs (record { at = p.at; bytes = bytes ++ rest }) (record { at = q.at; bytes = rest })
 
-line_append : (xs ys : List ℕ) → is_line xs ≡ true → is_line ys ≡ true → is_line (xs ++ ys) ≡ true
-line_append [] ys h k = k
-line_append (x ∷ xs) ys h k =
-    let parts = and_parts (is_line_byte x) (is_line xs) h in
-    and_from (is_line_byte x) (is_line (xs ++ ys)) parts.0 (line_append xs ys parts.1 k)
-
-pub span : (xs : List Piece) (p q : Place) → Stand xs p q → Span xs p q
-span [] p q s = record {
-  bytes = [];
-  split = ap (λ (x : Place). x.bytes) s;
-  lined = λ h. refl;
-  end = (let e : p.at ≡ q.at = ap (λ (x : Place). x.at) s in omega arith);
-  moves = λ rest. ap (λ (n : ℕ). record { at = n; bytes = rest }) (ap (λ (x : Place). x.at) s);
+-- these bytes, and then those of the other pieces
+longer : (x : Piece) (xs : List Piece) (w rest : List ℕ) (p q : Place) → p.bytes ≡ w ++ rest → (is_lined x ≡ true → is_line w ≡ true) →
+    ((others : List ℕ) (r : Place) → Stand xs (record { at = p.at + length w; bytes = others }) r →
+    Stand (x ∷ xs) (record { at = p.at; bytes = w ++ others }) r) →
+    Span xs (record { at = p.at + length w; bytes = rest }) q → Span (x ∷ xs) p q
+longer x xs w rest p q split line put more = record {
+  bytes = w ++ more.bytes;
+  split = split ∙ ap (λ (zs : List ℕ). w ++ zs) more.split ∙ sym (append_assoc w more.bytes q.bytes);
+  lined = λ h.
+      let parts = and_parts (is_lined x) (are_lined xs) h in
+      list_all_joined is_line_byte w more.bytes (line parts.0) (more.lined parts.1);
+  end = omega (arith, more.end, length-append w more.bytes);
+  moves = λ others.
+      subst (λ (zs : List ℕ). Stand (x ∷ xs) (record { at = p.at; bytes = zs }) (record { at = q.at; bytes = others }))
+      (sym (append_assoc w more.bytes others)) (put (more.bytes ++ others) _ (more.moves others));
 }
-span (word w ∷ xs) p q s =
-    let more = span xs (record { at = p.at + length w; bytes = s.0 }) q s.2 in
-    let same : length (w ++ more.bytes) ≡ length w + length more.bytes = length-append w more.bytes in
-    record {
-      bytes = w ++ more.bytes;
-      split = s.1 ∙ ap (λ (zs : List ℕ). w ++ zs) more.split ∙ sym (append_assoc w more.bytes q.bytes);
-      lined = λ h.
-          let parts = and_parts (is_line w) (are_lined xs) h in
-          line_append w more.bytes parts.0 (more.lined parts.1);
-      end = (let e : q.at ≡ (p.at + length w) + length more.bytes = more.end in omega arith);
-      moves = λ rest. (more.bytes ++ rest, append_assoc w more.bytes rest, more.moves rest);
-    }
+
+span : (xs : List Piece) (p q : Place) → Stand xs p q → Span xs p q
+span [] p q s =
+    subst (Span [] p) s (record { bytes = []; split = refl; lined = λ h. refl; end = omega arith; moves = λ rest. refl })
+span (word w ∷ xs) p q s = longer (word w) xs w s.0 p q s.1 (λ h. h) (λ others r t. (others, refl, t)) (span xs _ q s.2)
 span (named n ∷ xs) p q s =
-    let more = span xs (record { at = p.at + length s.0; bytes = s.1 }) q s.5 in
-    let same : length (s.0 ++ more.bytes) ≡ length s.0 + length more.bytes = length-append s.0 more.bytes in
-    record {
-      bytes = s.0 ++ more.bytes;
-      split = s.2 ∙ ap (λ (zs : List ℕ). s.0 ++ zs) more.split ∙ sym (append_assoc s.0 more.bytes q.bytes);
-      lined = λ h. line_append s.0 more.bytes (name_is_line s.0 s.3) (more.lined h);
-      end = (let e : q.at ≡ (p.at + length s.0) + length more.bytes = more.end in omega arith);
-      moves = λ rest. (s.0, more.bytes ++ rest, append_assoc s.0 more.bytes rest, s.3, s.4, more.moves rest);
-    }
+    longer (named n) xs s.0 s.1 p q s.2 (λ h. name_is_line s.0 s.3) (λ others r t. (s.0, others, refl, s.3, s.4, t)) (span xs _ q s.5)
 
--- ---- the first line of what is left
+-- ---- a line and its line feed
 
--- what is cut off
-pub cut_sound : (p line rest : Place) → cut p ≡ Some (line, rest) →
-    (p.bytes ≡ line.bytes ++ 10 ∷ rest.bytes) × (is_line line.bytes ≡ true) × (line.at ≡ p.at) × (rest.at ≡ p.at + (length line.bytes + 1))
-cut_sound p line rest e = by_test (ltb len (length p.bytes)) refl e where
-  len : ℕ
-  len = prefix_len is_line_byte p.bytes
-
-  by_test : (t : Bool) → ltb len (length p.bytes) ≡ t →
-      cond {A = Option (Place × Place)} t (Some (record { at = p.at; bytes = take len p.bytes }, skipped (len + 1) p)) None
-      ≡ Some (line, rest) →
-      (p.bytes ≡ line.bytes ++ 10 ∷ rest.bytes) × (is_line line.bytes ≡ true) × (line.at ≡ p.at)
-      × (rest.at ≡ p.at + (length line.bytes + 1))
-  by_test false h f = absurd (none-some (line, rest) f)
-  by_test true h f =
-      let split = split_feed p.bytes (take len p.bytes) (drop (len + 1) p.bytes) len refl (ltb-true len (length p.bytes) h) refl refl in
-      let P : Place × Place → Type 0 = λ v. (p.bytes ≡ v.0.bytes ++ 10 ∷ v.1.bytes) × (is_line v.0.bytes ≡ true) × (v.0.at ≡ p.at)
-      × (v.1.at ≡ p.at + (length v.0.bytes + 1)) in
-      subst P (same_Some _ (line, rest) f) (
-        split.0,
-        split.1,
-        refl,
-        ap (λ (n : ℕ). p.at + (n + 1)) (sym (length-prefix_len is_line_byte p.bytes)),
-      )
-
--- a line with its line feed, and the line alone
+-- a line with its line feed is read by itself
 pub record EndedLine (t : LineTree) (p q : Place) : Type 0 where
   pub bytes : List ℕ
   pub is_line : is_line bytes ≡ true
   pub split : p.bytes ≡ bytes ++ 10 ∷ q.bytes
   pub end : q.at ≡ p.at + (length bytes + 1)
-  pub stands : Stand (line_pieces t) (record { at = p.at; bytes = bytes }) (record { at = p.at + length bytes; bytes = [] })
-  pub moves : (rest : List ℕ) → Stand (ended_pieces t) (record {
-    at = p.at;
-    bytes = bytes
-        ++ 10 ∷ rest;
-  }) (record { at = q.at; bytes = rest })
+  pub alone : IsLineAt (record { at = p.at; bytes = bytes }) t
 
 pub ended_line : (t : LineTree) (p q : Place) → line_is_within t ≡ true → Stand (ended_pieces t) p q → EndedLine t p q
 ended_line t p q within s =
     let parts = stand_split (line_pieces t) (word (codes "\n") ∷ []) p q s in
-    let m : Place = parts.0 in
-    let line = span (line_pieces t) p m parts.1 in
-    let past : q ≡ record { at = m.at + 1; bytes = parts.2.0 } = sym parts.2.2 in
-    let rest : m.bytes ≡ 10 ∷ q.bytes = parts.2.1 ∙ ap (λ (x : Place). 10 ∷ x.bytes) (sym past) in
-    let at : q.at ≡ m.at + 1 = ap (λ (x : Place). x.at) past in
-    let stop : m.at ≡ p.at + length line.bytes = line.end in
+    let line = span (line_pieces t) p parts.0 parts.1 in
+    let after : parts.0.at + 1 ≡ q.at = ap (λ (x : Place). x.at) parts.2.2 in
     record {
       bytes = line.bytes;
-      is_line = line.lined (line_lined t within);
-      split = line.split ∙ ap (λ (zs : List ℕ). line.bytes ++ zs) rest;
-      end = omega arith;
-      stands = alone t p m line;
-      moves = λ others.
-          stand_append (line_pieces t) (word (codes "\n") ∷ []) (record { at = p.at; bytes = line.bytes ++ 10 ∷ others })
-          (record { at = m.at; bytes = 10 ∷ others }) (record { at = q.at; bytes = others }) (line.moves (10 ∷ others))
-          (others, refl, ap (λ (n : ℕ). record { at = n; bytes = others }) (sym at));
+      is_line = line.lined (line_lined t);
+      split = line.split ∙ ap (λ (zs : List ℕ). line.bytes ++ zs) (parts.2.1 ∙ ap (λ (x : Place). 10 ∷ x.bytes) parts.2.2);
+      end = omega (arith, after, line.end);
+      alone = record {
+        end = record { at = parts.0.at; bytes = [] };
+        stands = subst (λ (zs : List ℕ). Stand (line_pieces t) (record { at = p.at; bytes = zs }) (record { at = parts.0.at; bytes = [] }))
+            (append-nil line.bytes) (line.moves []);
+        ends = refl;
+        within = within;
+      };
     }
-  where
-    alone : (t : LineTree) (p m : Place) (line : Span (line_pieces t) p m) →
-        Stand (line_pieces t) (record { at = p.at; bytes = line.bytes }) (record { at = p.at + length line.bytes; bytes = [] })
-    alone t p m line =
-        let P : List ℕ → Type 0 = λ bytes. Stand (line_pieces t) (record { at = p.at; bytes = bytes }) (record { at = m.at; bytes = [] }) in
-        let Q : ℕ → Type 0 = λ n. Stand (line_pieces t) (record { at = p.at; bytes = line.bytes }) (record { at = n; bytes = [] }) in
-        subst Q line.end (subst P (append-nil line.bytes) (line.moves []))
 
 -- a line that stands alone stands before a line feed too
-pub line_before_feed : (t : LineTree) (p q : Place) → Stand (line_pieces t) p q → q.bytes ≡ [] → (rest : List ℕ) →
+pub line_before_feed : (t : LineTree) (p : Place) → IsLineAt p t → (rest : List ℕ) →
     Stand (ended_pieces t) (record { at = p.at; bytes = p.bytes ++ 10 ∷ rest })
     (record { at = p.at + (length p.bytes + 1); bytes = rest })
-line_before_feed t p q s ends rest =
-    let line = span (line_pieces t) p q s in
-    let whole : line.bytes ≡ p.bytes = sym (append-nil line.bytes) ∙ ap (λ (zs : List ℕ). line.bytes ++ zs) (sym ends) ∙ sym line.split in
-    let P : List ℕ → Type 0 = λ bytes.
-    Stand (line_pieces t) (record { at = p.at; bytes = bytes ++ 10 ∷ rest }) (record { at = q.at; bytes = 10 ∷ rest }) in
-    let stop : q.at ≡ p.at + length line.bytes = line.end in
-    let len : length line.bytes ≡ length p.bytes = ap length whole in
-    let at : q.at + 1 ≡ p.at + (length p.bytes + 1) = omega arith in
+line_before_feed t p l rest =
+    let line = span (line_pieces t) p l.end l.stands in
+    let whole : line.bytes ≡ p.bytes = sym (append-nil line.bytes) ∙ ap (λ (zs : List ℕ). line.bytes ++ zs) (sym l.ends) ∙ sym line.split in
+    let at : l.end.at + 1 ≡ p.at + (length p.bytes + 1) = omega (arith, line.end, ap length whole) in
     stand_append (line_pieces t) (word (codes "\n") ∷ []) (record { at = p.at; bytes = p.bytes ++ 10 ∷ rest })
-    (record { at = q.at; bytes = 10 ∷ rest }) (record { at = p.at + (length p.bytes + 1); bytes = rest })
-    (subst P whole (line.moves (10 ∷ rest)))
+    (record { at = l.end.at; bytes = 10 ∷ rest }) (record { at = p.at + (length p.bytes + 1); bytes = rest })
+    (subst (λ (zs : List ℕ). Stand (line_pieces t) (record { at = p.at; bytes = zs ++ 10 ∷ rest })
+    (record { at = l.end.at; bytes = 10 ∷ rest }))
+    whole (line.moves (10 ∷ rest)))
     (rest, refl, ap (λ (n : ℕ). record { at = n; bytes = rest }) at)
-
--- such a line is read by itself
-pub line_alone : (t : LineTree) (p q : Place) → line_is_within t ≡ true → (e : EndedLine t p q) →
-    IsLineAt (record { at = p.at; bytes = e.bytes }) t
-line_alone t p q h e = record {
-  end = record { at = p.at + length e.bytes; bytes = [] };
-  stands = e.stands;
-  ends = refl;
-  within = h;
-}
-
--- a line has a byte
-cons_some : (bytes : List ℕ) (c : ℕ) (cs : List ℕ) → bytes ≡ c ∷ cs → 0 < length bytes
-cons_some bytes c cs e = let same : length bytes ≡ suc (length cs) = ap length e in omega arith
-
-pub some_bytes : (p : Place) (t : LineTree) → IsLineAt p t → 0 < length p.bytes
-some_bytes p head_line l = cons_some p.bytes _ _ l.stands.1
-some_bytes p (input n) l = cons_some p.bytes _ _ l.stands.1
-some_bytes p (cell n) l = cons_some p.bytes _ _ l.stands.1
-some_bytes p (output n) l = cons_some p.bytes _ _ l.stands.1
-some_bytes p (window w) l = cons_some p.bytes _ _ l.stands.1
-some_bytes p (node i n) l = cons_some p.bytes _ _ l.stands.1
-some_bytes p (state i n) l = cons_some p.bytes _ _ l.stands.1
-some_bytes p end_line l = cons_some p.bytes _ _ l.stands.1

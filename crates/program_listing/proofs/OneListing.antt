@@ -1,6 +1,5 @@
 -- A text has at most one listing, and none where a line is at fault.
-use Rattle.std.proofs.Common.{◌≡◌, ℕ, ◌<◌, ◌≤◌, List, ◌++◌, take, drop, ◌⊎◌, inl, inr, sym, ap, ◌∙◌}
-use Rattle.std.proofs.Common.{append_assoc, arith}
+use Rattle.std.proofs.Common.{◌≡◌, ℕ, ◌<◌, ◌≤◌, List, ◌++◌, take, drop, ◌⊎◌, inl, inr, sym, ap, ◌∙◌, append_assoc, arith}
 use Rattle.std.specs.List.{list_all}
 use Rattle.std.proofs.lemmas.Bool.{cases_order}
 use Rattle.std.proofs.lemmas.List.{take-append-drop, length-take-le}
@@ -20,9 +19,9 @@ one_listing text l m a b =
     let left = listing_leads text l a in
     let right = listing_leads text m b in
     let same : left.lines ≡ right.lines =
-    one_list_of_lines left.lines right.lines left.are_lines right.are_lines (sym left.split ∙ right.split) in
+    one_list_of_lines left.lines right.lines left.is_text.lines right.is_text.lines (sym left.split ∙ right.split) in
     let ends : left.end ≡ right.end =
-    same_Some left.end right.end (sym left.says ∙ ap (λ (ls : List (List ℕ)). steps step start ls) same ∙ right.says) in
+    same_Some left.end right.end (sym left.is_text.says ∙ ap (λ (ls : List (List ℕ)). steps step start ls) same ∙ right.is_text.says) in
     done_one l m (sym left.done ∙ ap (λ (s : ListingState). s.progress) ends ∙ right.done)
   where
     done_one : (l m : ListingTree) → done l ≡ done m → l ≡ m

@@ -1,211 +1,128 @@
 -- The order of lines: the lines of a listing are those that may stand one after another.
-use Rattle.std.proofs.Common.{◌≡◌, ℕ, suc, ◌+◌, ◌<◌, Bool, true, false, not, ◌&&◌, eqb, List, [], ◌∷◌, ◌++◌, length, map, flat_map}
-use Rattle.std.proofs.Common.{Option, Some, None, refl, sym, ap, subst, ◌∙◌, append_assoc, arith, length-append}
-use Rattle.std.specs.Prelude.{option_and_then}
+use Rattle.std.proofs.Common.{◌≡◌, ℕ, suc, ◌+◌, ◌<◌, true, not, ◌&&◌, eqb, List, [], ◌∷◌, ◌++◌, length, map, flat_map, Some, None}
+use Rattle.std.proofs.Common.{option_and_then, refl, sym, ap, subst, ◌∙◌, append_assoc, arith, length-append}
 use Rattle.std.proofs.lemmas.Bool.{and_parts, and_from, cond-true, eqb-true, eq-eqb, not-true, false≢true}
 use Rattle.std.proofs.lemmas.List.{append-nil, map-append}
-use Rattle.std.proofs.lemmas.Option.{none-some, same_Some}
+use Rattle.std.proofs.lemmas.Option.{none-some, same_Some, cond_some}
+use Rattle.line_formats.proofs.FormatLaws.{and_then_some}
 use Rattle.program_listing.specs.declared.listing.Name.{Name}
-use Rattle.program_listing.specs.ListingTree.{WindowLine, NodeLine, ListingTree, empty_listing}
+use Rattle.program_listing.specs.ListingTree.{NodeLine, ListingTree, empty_listing}
 use Rattle.program_listing.specs.Listing.{declared}
 use Rattle.program_listing.specs.LineText.{LineTree, head_line, input, cell, output, window, node, state, end_line, node_lines, state_lines}
 use Rattle.program_listing.specs.LineText.{listing_lines}
-use Rattle.program_listing.specs.internal.LineOrder.{Progress, fresh, going, done, is_nil, no_node, no_window, no_output}
-use Rattle.program_listing.specs.internal.LineOrder.{no_cell, when, added, add, add_all, listing_of, declares}
+use Rattle.program_listing.specs.internal.LineOrder.{Progress, fresh, going, done, is_nil, no_node, no_window, no_output, no_cell}
+use Rattle.program_listing.specs.internal.LineOrder.{may_stand, progress_with, add, add_all, from_states, from_nodes, from_windows}
+use Rattle.program_listing.specs.internal.LineOrder.{from_outputs, from_cells, lines_with, lines_so_far, listing_of, declares}
 
--- ---- adding lines
+pub after_lines : (xs ys : List LineTree) (p q : Progress) → add_all xs p ≡ Some q → add_all (xs ++ ys) p ≡ add_all ys q
+after_lines [] ys p q e = ap (add_all ys) (same_Some p q e)
+after_lines (x ∷ xs) ys p q e =
+    let first = and_then_some (add p x) (add_all xs) q e in
+    ap (option_and_then (add_all (xs ++ ys))) first.1 ∙ after_lines xs ys first.0 q first.2
 
-pub add_all_append : (xs ys : List LineTree) (p : Progress) → add_all (xs ++ ys) p ≡ option_and_then (add_all ys) (add_all xs p)
-add_all_append [] ys p = refl
-add_all_append (x ∷ xs) ys p = by_answer (add p x) (add_all_append xs ys) where
-  by_answer : (o : Option Progress) → ((q : Progress) → add_all (xs ++ ys) q ≡ option_and_then (add_all ys) (add_all xs q)) →
-      option_and_then (add_all (xs ++ ys)) o ≡ option_and_then (add_all ys) (option_and_then (add_all xs) o)
-  by_answer None more = refl
-  by_answer (Some q) more = more q
+-- ---- a section: lines that make a list grow, one after another, each with its number
 
-pub add_all_more : (xs : List LineTree) (t : LineTree) (p q : Progress) → add_all xs p ≡ Some q → add_all (xs ++ t ∷ []) p ≡ add q t
-add_all_more xs t p q e =
-    add_all_append xs (t ∷ []) p ∙ ap (option_and_then (add_all (t ∷ []))) e ∙ by_answer (add q t)
-  where
-    by_answer : (o : Option Progress) → option_and_then (add_all []) o ≡ o
-    by_answer None = refl
-    by_answer (Some r) = refl
+module _ {A : Type 0} (line : ℕ → A → LineTree) (lines : ℕ → List A → List LineTree) (none : (i : ℕ) → lines i [] ≡ [])
+    (more : (i : ℕ) (x : A) (xs : List A) → lines i (x ∷ xs) ≡ line i x ∷ lines (suc i) xs) where
+  section_push : (i k : ℕ) (xs : List A) (y : A) → k ≡ i + length xs → lines i (xs ++ y ∷ []) ≡ lines i xs ++ line k y ∷ []
+  section_push i k [] y e =
+      let same : i ≡ k = omega arith in
+      more i y [] ∙ (λ j. line (same j) y ∷ none (suc i) j) ∙ ap (λ (ts : List LineTree). ts ++ line k y ∷ []) (sym (none i))
+  section_push i k (x ∷ xs) y e =
+      more i x (xs ++ y ∷ []) ∙ ap (λ (ts : List LineTree). line i x ∷ ts) (section_push (suc i) k xs y (omega (arith, e)))
+      ∙ ap (λ (ts : List LineTree). ts ++ line k y ∷ []) (sym (more i x xs))
 
--- ---- a section: lines that make lists grow, one after another
+  module _ (grow : List A → Progress) (one : (xs : List A) (x : A) → add (grow xs) (line (length xs) x) ≡ Some (grow (xs ++ x ∷ []))) where
+    section_grows : (xs ys : List A) → add_all (lines (length xs) ys) (grow xs) ≡ Some (grow (xs ++ ys))
+    section_grows xs [] =
+        ap (λ (ts : List LineTree). add_all ts (grow xs)) (none (length xs)) ∙ ap (λ (zs : List A). Some (grow zs)) (sym (append-nil xs))
+    section_grows xs (y ∷ ys) =
+        let next : length (xs ++ y ∷ []) ≡ suc (length xs) = length-append xs (y ∷ []) ∙ omega arith in
+        ap (λ (ts : List LineTree). add_all ts (grow xs)) (more (length xs) y ys)
+        ∙ ap (option_and_then (add_all (lines (suc (length xs)) ys))) (one xs y)
+        ∙ ap (λ (i : ℕ). add_all (lines i ys) (grow (xs ++ y ∷ []))) (sym next)
+        ∙ section_grows (xs ++ y ∷ []) ys
+        ∙ ap (λ (zs : List A). Some (grow zs)) (append_assoc xs (y ∷ []) ys)
 
-abbrev numbered : {A : Type 0} → (ℕ → A → LineTree) → ℕ → List A → List LineTree
-numbered line i [] = []
-numbered line i (x ∷ xs) = line i x ∷ numbered line (suc i) xs
-
-numbered_map : {A : Type 0} (make : A → LineTree) (i : ℕ) (xs : List A) → numbered (λ i. make) i xs ≡ map make xs
-numbered_map make i [] = refl
-numbered_map make i (x ∷ xs) = ap (λ (ts : List LineTree). make x ∷ ts) (numbered_map make (suc i) xs)
-
-numbered_nodes : (i : ℕ) (ns : List NodeLine) → numbered node i ns ≡ node_lines i ns
-numbered_nodes i [] = refl
-numbered_nodes i (n ∷ ns) = ap (λ (ts : List LineTree). node i n ∷ ts) (numbered_nodes (suc i) ns)
-
-numbered_states : (i : ℕ) (ns : List ℕ) → numbered state i ns ≡ state_lines i ns
-numbered_states i [] = refl
-numbered_states i (n ∷ ns) = ap (λ (ts : List LineTree). state i n ∷ ts) (numbered_states (suc i) ns)
-
-module _ {A : Type 0} (line : ℕ → A → LineTree) where
-  -- what was added grows by each line
-  section : (grow : List A → Progress) → ((xs : List A) (x : A) → add (grow xs) (line (length xs) x) ≡ Some (grow (xs ++ x ∷ []))) →
-      (xs ys : List A) → add_all (numbered line (length xs) ys) (grow xs) ≡ Some (grow (xs ++ ys))
-  section grow one xs [] = ap (λ (zs : List A). Some (grow zs)) (sym (append-nil xs))
-  section grow one xs (y ∷ ys) =
-      let next : length (xs ++ y ∷ []) ≡ suc (length xs) = length-append xs (y ∷ []) ∙ omega arith in
-      ap (option_and_then (add_all (numbered line (suc (length xs)) ys))) (one xs y)
-      ∙ ap (λ (i : ℕ). add_all (numbered line i ys) (grow (xs ++ y ∷ []))) (sym next)
-      ∙ section grow one (xs ++ y ∷ []) ys
-      ∙ ap (λ (zs : List A). Some (grow zs)) (append_assoc xs (y ∷ []) ys)
-
-  numbered_more : (i : ℕ) (xs : List A) (y : A) → numbered line i (xs ++ y ∷ []) ≡ numbered line i xs ++ line (i + length xs) y ∷ []
-  numbered_more i [] y = ap (λ (k : ℕ). line k y ∷ []) (omega arith)
-  numbered_more i (x ∷ xs) y =
-      let on : suc i + length xs ≡ i + suc (length xs) = omega arith in
-      ap (λ (ts : List LineTree). line i x ∷ ts)
-      (numbered_more (suc i) xs y ∙ ap (λ (k : ℕ). numbered line (suc i) xs ++ line k y ∷ []) on)
+    section : (ys : List A) (rest : List LineTree) → add_all (lines 0 ys ++ rest) (grow []) ≡ add_all rest (grow ys)
+    section ys rest = after_lines (lines 0 ys) rest (grow []) (grow ys) (section_grows [] ys)
 
 -- ---- the lines of a listing may stand one after another
 
--- the lines before these
-abbrev then_all : List LineTree → Option Progress → Option Progress
-then_all lines o = option_and_then (add_all lines) o
+some_member : {A : Type 0} (xs : List A) → 0 < length xs → not (is_nil xs) ≡ true
+some_member [] h = absurd (omega arith)
+some_member (x ∷ xs) h = refl
 
-join : (xs ys : List LineTree) (p q : Progress) → add_all xs p ≡ Some q → add_all (xs ++ ys) p ≡ add_all ys q
-join xs ys p q e = add_all_append xs ys p ∙ ap (option_and_then (add_all ys)) e
+same_length : {A : Type 0} (xs : List A) → eqb (length xs) (length xs) ≡ true
+same_length xs = eq-eqb (length xs) (length xs) refl
 
 pub listing_adds : (l : ListingTree) → 0 < length l.nodes → 0 < length l.states → add_all (listing_lines l) fresh ≡ Some (done l)
 listing_adds l some_node some_state =
-    let ins : List Name = l.inputs in
-    let cells : List Name = l.cells in
-    let outs : List Name = l.outputs in
-    let wins : List WindowLine = l.windows in
-    let nodes : List NodeLine = l.nodes in
-    let states : List ℕ = l.states in
-    let from_states : List LineTree = state_lines 0 states ++ end_line ∷ [] in
-    let from_nodes : List LineTree = node_lines 0 nodes ++ from_states in
-    let from_windows : List LineTree = map window wins ++ from_nodes in
-    let from_outputs : List LineTree = map output outs ++ from_windows in
-    let from_cells : List LineTree = map cell cells ++ from_outputs in
-    let a : Progress = going (record { inputs = ins; cells = []; outputs = []; windows = []; nodes = []; states = [] }) in
-    let b : Progress = going (record { inputs = ins; cells = cells; outputs = []; windows = []; nodes = []; states = [] }) in
-    let c : Progress = going (record { inputs = ins; cells = cells; outputs = outs; windows = []; nodes = []; states = [] }) in
-    let d : Progress = going (record { inputs = ins; cells = cells; outputs = outs; windows = wins; nodes = []; states = [] }) in
-    let e : Progress = going (record { inputs = ins; cells = cells; outputs = outs; windows = wins; nodes = nodes; states = [] }) in
-    join (map input ins) from_cells (going empty_listing) a
-    (ap (λ (ts : List LineTree). add_all ts (going empty_listing)) (sym (numbered_map input 0 ins))
-    ∙ section (λ i. input) (λ xs. going (record { inputs = xs; cells = []; outputs = []; windows = []; nodes = []; states = [] }))
-    (λ xs x. refl) [] ins)
-    ∙ join (map cell cells) from_outputs a b
-    (ap (λ (ts : List LineTree). add_all ts a) (sym (numbered_map cell 0 cells))
-    ∙ section (λ i. cell) (λ xs. going (record { inputs = ins; cells = xs; outputs = []; windows = []; nodes = []; states = [] }))
-    (λ xs x. refl) [] cells)
-    ∙ join (map output outs) from_windows b c
-    (ap (λ (ts : List LineTree). add_all ts b) (sym (numbered_map output 0 outs))
-    ∙ section (λ i. output) (λ xs. going (record { inputs = ins; cells = cells; outputs = xs; windows = []; nodes = []; states = [] }))
-    (λ xs x. refl) [] outs)
-    ∙ join (map window wins) from_nodes c d
-    (ap (λ (ts : List LineTree). add_all ts c) (sym (numbered_map window 0 wins))
-    ∙ section (λ i. window) (λ xs. going (record { inputs = ins; cells = cells; outputs = outs; windows = xs; nodes = []; states = [] }))
-    (λ xs x. refl) [] wins)
-    ∙ join (node_lines 0 nodes) from_states d e
-    (ap (λ (ts : List LineTree). add_all ts d) (sym (numbered_nodes 0 nodes))
-    ∙ section node (λ xs. going (record { inputs = ins; cells = cells; outputs = outs; windows = wins; nodes = xs; states = [] }))
-    (λ xs x. cond-true (eqb (length xs) (length xs) && true) _ None (and_from (eqb (length xs) (length xs)) true (eq-eqb _ _ refl) refl))
-    [] nodes)
-    ∙ join (state_lines 0 states) (end_line ∷ []) e (going l)
-    (ap (λ (ts : List LineTree). add_all ts e) (sym (numbered_states 0 states))
-    ∙ section state (λ xs. going (record { inputs = ins; cells = cells; outputs = outs; windows = wins; nodes = nodes; states = xs }))
-    (λ xs x. cond-true (eqb (length xs) (length xs) && not (is_nil nodes)) _ None
-    (and_from (eqb (length xs) (length xs)) (not (is_nil nodes)) (eq-eqb _ _ refl) (some_member nodes some_node)))
-    [] states)
-    ∙ ap (option_and_then (add_all []))
-    (cond-true (not (is_nil nodes) && not (is_nil states)) (Some (done l)) None
-    (and_from (not (is_nil nodes)) (not (is_nil states)) (some_member nodes some_node) (some_member states some_state)))
-  where
-    some_member : {A : Type 0} (xs : List A) → 0 < length xs → not (is_nil xs) ≡ true
-    some_member [] h = absurd (omega arith)
-    some_member (x ∷ xs) h = refl
+    let nodes : not (is_nil l.nodes) ≡ true = some_member l.nodes some_node in
+    section (λ i. input) (λ i. map input) (λ i. refl) (λ i x xs. refl) (λ xs. going (record empty_listing { inputs = xs })) (λ xs x. refl)
+    l.inputs (from_cells l (end_line ∷ []))
+    ∙ section (λ i. cell) (λ i. map cell) (λ i. refl) (λ i x xs. refl)
+    (λ xs. going (record empty_listing { inputs = l.inputs; cells = xs })) (λ xs x. refl) l.cells (from_outputs l (end_line ∷ []))
+    ∙ section (λ i. output) (λ i. map output) (λ i. refl) (λ i x xs. refl)
+    (λ xs. going (record empty_listing { inputs = l.inputs; cells = l.cells; outputs = xs })) (λ xs x. refl) l.outputs
+    (from_windows l (end_line ∷ []))
+    ∙ section (λ i. window) (λ i. map window) (λ i. refl) (λ i x xs. refl)
+    (λ xs. going (record l { windows = xs; nodes = []; states = [] })) (λ xs x. refl) l.windows (from_nodes l (end_line ∷ []))
+    ∙ section node node_lines (λ i. refl) (λ i x xs. refl) (λ xs. going (record l { nodes = xs; states = [] }))
+    (λ xs x. cond-true (eqb (length xs) (length xs) && true) _ None (and_from (eqb (length xs) (length xs)) true (same_length xs) refl))
+    l.nodes (from_states l (end_line ∷ []))
+    ∙ section state state_lines (λ i. refl) (λ i x xs. refl) (λ xs. going (record l { states = xs }))
+    (λ xs x. cond-true (eqb (length xs) (length xs) && not (is_nil l.nodes)) _ None
+    (and_from (eqb (length xs) (length xs)) (not (is_nil l.nodes)) (same_length xs) nodes)) l.states (end_line ∷ [])
+    ∙ ap (option_and_then (add_all [])) (cond-true (not (is_nil l.nodes) && not (is_nil l.states)) (Some (done l)) None
+    (and_from (not (is_nil l.nodes)) (not (is_nil l.states)) nodes (some_member l.states some_state)))
 
 -- ---- and only those may
-
--- the lines of what was added, with these after them
-abbrev pub lines_with : ListingTree → List LineTree → List LineTree
-lines_with l tail =
-    head_line ∷ (map input l.inputs ++ (map cell l.cells ++ (map output l.outputs ++ (map window l.windows
-    ++ (node_lines 0 l.nodes ++ (state_lines 0 l.states ++ tail))))))
-
-abbrev pub lines_so_far : Progress → List LineTree
-lines_so_far fresh = []
-lines_so_far (going l) = lines_with l []
-lines_so_far (done l) = listing_lines l
-
--- where a test holds
-when_is : (test : Bool) (p q : Progress) → when test p ≡ Some q → (test ≡ true) × (p ≡ q)
-when_is false p q e = absurd (none-some q e)
-when_is true p q e = (refl, same_Some p q e)
 
 nil_is : {A : Type 0} (xs : List A) → is_nil xs ≡ true → xs ≡ []
 nil_is [] h = refl
 nil_is (x ∷ xs) h = absurd (false≢true h)
 
+-- sections that are empty
+module _ (l : ListingTree) (tail : List LineTree) where
+  no_states : is_nil l.states ≡ true → from_states l tail ≡ tail
+  no_states h = ap (λ (ns : List ℕ). state_lines 0 ns ++ tail) (nil_is l.states h)
+
+  no_nodes : no_node l ≡ true → from_nodes l tail ≡ tail
+  no_nodes h =
+      let parts = and_parts (is_nil l.nodes) (is_nil l.states) h in
+      ap (λ (ns : List NodeLine). node_lines 0 ns ++ from_states l tail) (nil_is l.nodes parts.0) ∙ no_states parts.1
+
+  no_windows : no_window l ≡ true → from_windows l tail ≡ tail
+  no_windows h = let parts = and_parts (is_nil l.windows) (no_node l) h in rw (nil_is l.windows parts.0) (no_nodes parts.1)
+
+  no_outputs : no_output l ≡ true → from_outputs l tail ≡ tail
+  no_outputs h = let parts = and_parts (is_nil l.outputs) (no_window l) h in rw (nil_is l.outputs parts.0) (no_windows parts.1)
+
+  no_cells : no_cell l ≡ true → from_cells l tail ≡ tail
+  no_cells h = let parts = and_parts (is_nil l.cells) (no_output l) h in rw (nil_is l.cells parts.0) (no_outputs parts.1)
+
+-- one line more in a section, where those after it are empty
+section_end : {A : Type 0} (lines : List A → List LineTree) (xs : List A) (x : A) (t : LineTree) (rest : List LineTree → List LineTree) →
+    lines (xs ++ x ∷ []) ≡ lines xs ++ t ∷ [] → ((ts : List LineTree) → rest ts ≡ ts) →
+    lines (xs ++ x ∷ []) ++ rest [] ≡ lines xs ++ rest (t ∷ [])
+section_end lines xs x t rest push none =
+    (λ i. push i ++ none [] i) ∙ append-nil (lines xs ++ t ∷ []) ∙ (λ i. lines xs ++ sym (none (t ∷ [])) i)
+
 lines_end : (l : ListingTree) (tail : List LineTree) → lines_with l [] ++ tail ≡ lines_with l tail
-lines_end l tail =
-    simp (append_assoc, append-nil)
+lines_end l tail = simp (append_assoc, append-nil)
 
--- ---- a line that is added stands after those so far
+-- what is done has a node and a state, and before that a state stands only after a node
+abbrev pub IsInOrder : Progress → Type 0
+IsInOrder fresh = Unit {0}
+IsInOrder (going l) = is_nil l.nodes ≡ true → is_nil l.states ≡ true
+IsInOrder (done l) = (0 < length l.nodes) × (0 < length l.states)
 
-no_node_is : (l : ListingTree) → no_node l ≡ true → (l.nodes ≡ []) × (l.states ≡ [])
-no_node_is l h = let parts = and_parts (is_nil l.nodes) (is_nil l.states) h in (nil_is l.nodes parts.0, nil_is l.states parts.1)
-
-no_window_is : (l : ListingTree) → no_window l ≡ true → (l.windows ≡ []) × (l.nodes ≡ []) × (l.states ≡ [])
-no_window_is l h =
-    let parts = and_parts (is_nil l.windows) (no_node l) h in
-    let more = no_node_is l parts.1 in
-    (nil_is l.windows parts.0, more.0, more.1)
-
-no_output_is : (l : ListingTree) → no_output l ≡ true → (l.outputs ≡ []) × (l.windows ≡ []) × (l.nodes ≡ []) × (l.states ≡ [])
-no_output_is l h =
-    let parts = and_parts (is_nil l.outputs) (no_window l) h in
-    let more = no_window_is l parts.1 in
-    (nil_is l.outputs parts.0, more.0, more.1, more.2)
-
-no_cell_is : (l : ListingTree) → no_cell l ≡ true → (l.cells ≡ []) × (l.outputs ≡ []) × (l.windows ≡ []) × (l.nodes ≡ []) × (l.states ≡ [])
-no_cell_is l h =
-    let parts = and_parts (is_nil l.cells) (no_output l) h in
-    let more = no_output_is l parts.1 in
-    (nil_is l.cells parts.0, more.0, more.1, more.2, more.3)
-
--- one more in a section, where the sections after it are empty
-section_end : {A : Type 0} (make : A → LineTree) (xs : List A) (x : A) → map make (xs ++ x ∷ []) ++ [] ≡ map make xs ++ make x ∷ []
-section_end make xs x = append-nil (map make (xs ++ x ∷ [])) ∙ map-append make xs (x ∷ [])
-
-nodes_end : (ns : List NodeLine) (n : NodeLine) → node_lines 0 (ns ++ n ∷ []) ++ [] ≡ node_lines 0 ns ++ node (length ns) n ∷ []
-nodes_end ns n =
-    append-nil (node_lines 0 (ns ++ n ∷ [])) ∙ sym (numbered_nodes 0 (ns ++ n ∷ [])) ∙ numbered_more node 0 ns n
-    ∙ ap (λ (i : ℕ). numbered node 0 ns ++ node i n ∷ []) (let e : 0 + length ns ≡ length ns = omega arith in e)
-    ∙ ap (λ (ts : List LineTree). ts ++ node (length ns) n ∷ []) (numbered_nodes 0 ns)
-
-states_end : (ns : List ℕ) (n : ℕ) → state_lines 0 (ns ++ n ∷ []) ++ [] ≡ state_lines 0 ns ++ state (length ns) n ∷ []
-states_end ns n =
-    append-nil (state_lines 0 (ns ++ n ∷ [])) ∙ sym (numbered_states 0 (ns ++ n ∷ [])) ∙ numbered_more state 0 ns n
-    ∙ ap (λ (i : ℕ). numbered state 0 ns ++ state i n ∷ []) (let e : 0 + length ns ≡ length ns = omega arith in e)
-    ∙ ap (λ (ts : List LineTree). ts ++ state (length ns) n ∷ []) (numbered_states 0 ns)
-
--- what is done has a node and a state
-abbrev pub HasBoth : Progress → Type 0
-HasBoth (done l) = (0 < length l.nodes) × (0 < length l.states)
-HasBoth _ = Unit {0}
-
--- what a line changes: the lines so far and the names declared grow by it, and a state stands only after a node
-pub record Grown (l : ListingTree) (t : LineTree) (q : Progress) : Type 0 where
-  pub lines : lines_so_far q ≡ lines_with l (t ∷ [])
-  pub names : declared (listing_of q) ≡ declared l ++ declares t
-  pub valid : (is_nil l.nodes ≡ true → is_nil l.states ≡ true) → is_nil (listing_of q).nodes ≡ true → is_nil (listing_of q).states ≡ true
-  pub both : HasBoth q
+-- what a line changes
+pub record Grown (p : Progress) (t : LineTree) (q : Progress) : Type 0 where
+  pub lines : lines_so_far q ≡ lines_so_far p ++ t ∷ []
+  pub names : declared (listing_of q) ≡ declared (listing_of p) ++ declares t
+  pub in_order : IsInOrder p → IsInOrder q
 
 pushed : {A : Type 0} (xs : List A) (x : A) → is_nil (xs ++ x ∷ []) ≡ true → ⊥
 pushed [] x h = false≢true h
@@ -215,151 +132,71 @@ some_length : {A : Type 0} (xs : List A) → not (is_nil xs) ≡ true → 0 < le
 some_length [] h = absurd (false≢true h)
 some_length (x ∷ xs) h = omega arith
 
-grown : (l : ListingTree) (t : LineTree) (q : Progress) → added l t ≡ Some q → Grown l t q
-grown l head_line q e = absurd (none-some q e)
-grown l (input n) q e =
-    let w = when_is (no_cell l) (going (record l { inputs = l.inputs ++ n ∷ [] })) q e in
-    let nil = no_cell_is l w.0 in
-    let P : Progress → Type 0 = Grown l (input n) in
-    subst P w.1
-    (record {
-      lines = rw (nil.0, nil.1, nil.2, nil.3, nil.4) (ap (λ (ts : List LineTree). head_line ∷ ts) (section_end input l.inputs n));
-      names = rw (nil.0, nil.1) (simp append-nil);
-      valid = λ h. h;
-      both = tt;
-    })
-grown l (cell n) q e =
-    let w = when_is (no_output l) (going (record l { cells = l.cells ++ n ∷ [] })) q e in
-    let nil = no_output_is l w.0 in
-    let P : Progress → Type 0 = Grown l (cell n) in
-    subst P w.1
-    (record {
-      lines = rw (nil.0, nil.1, nil.2, nil.3)
-          (ap (λ (ts : List LineTree). head_line ∷ (map input l.inputs ++ ts)) (section_end cell l.cells n));
-      names = rw nil.0 (simp (append-nil, append_assoc));
-      valid = λ h. h;
-      both = tt;
-    })
-grown l (output n) q e =
-    let w = when_is (no_window l) (going (record l { outputs = l.outputs ++ n ∷ [] })) q e in
-    let nil = no_window_is l w.0 in
-    let P : Progress → Type 0 = Grown l (output n) in
-    subst P w.1
-    (record {
-      lines = rw (nil.0, nil.1, nil.2)
-          (ap (λ (ts : List LineTree). head_line ∷ (map input l.inputs ++ (map cell l.cells ++ ts))) (section_end output l.outputs n));
-      names = simp append_assoc;
-      valid = λ h. h;
-      both = tt;
-    })
-grown l (window w') q e =
-    let w = when_is (no_node l) (going (record l { windows = l.windows ++ w' ∷ [] })) q e in
-    let nil = no_node_is l w.0 in
-    let P : Progress → Type 0 = Grown l (window w') in
-    subst P w.1
-    (record {
-      lines = rw (nil.0, nil.1)
-          (ap (λ (ts : List LineTree). head_line ∷ (map input l.inputs ++ (map cell l.cells ++ (map output l.outputs ++ ts))))
-          (section_end window l.windows w'));
-      names = sym (append-nil (declared l));
-      valid = λ h. h;
-      both = tt;
-    })
-grown l (node i n) q e =
-    let w = when_is (eqb i (length l.nodes) && is_nil l.states) (going (record l { nodes = l.nodes ++ n ∷ [] })) q e in
-    let parts = and_parts (eqb i (length l.nodes)) (is_nil l.states) w.0 in
-    let nil = nil_is l.states parts.1 in
+grows_by : (l : ListingTree) (t : LineTree) → lines_so_far (progress_with l t) ≡ lines_with l (t ∷ []) →
+    declared (listing_of (progress_with l t)) ≡ declared l ++ declares t → (IsInOrder (going l) → IsInOrder (progress_with l t)) →
+    Grown (going l) t (progress_with l t)
+grows_by l t lines names in_order = record { lines = lines ∙ sym (lines_end l (t ∷ [])); names = names; in_order = in_order }
+
+grows : (l : ListingTree) (t : LineTree) → may_stand l t ≡ true → Grown (going l) t (progress_with l t)
+grows l head_line h = absurd (false≢true h)
+grows l (input n) h =
+    let parts = and_parts (is_nil l.cells) (no_output l) h in
+    grows_by l (input n)
+    (rw (section_end (map input) l.inputs n (input n) (from_cells l) (map-append input l.inputs (n ∷ [])) (λ ts. no_cells l ts h)))
+    (rw (nil_is l.cells parts.0, nil_is l.outputs (and_parts (is_nil l.outputs) (no_window l) parts.1).0) (simp append-nil))
+    (λ valid. valid)
+grows l (cell n) h =
+    grows_by l (cell n)
+    (rw (section_end (map cell) l.cells n (cell n) (from_outputs l) (map-append cell l.cells (n ∷ [])) (λ ts. no_outputs l ts h)))
+    (rw (nil_is l.outputs (and_parts (is_nil l.outputs) (no_window l) h).0) (simp (append-nil, append_assoc)))
+    (λ valid. valid)
+grows l (output n) h =
+    grows_by l (output n)
+    (rw (section_end (map output) l.outputs n (output n) (from_windows l) (map-append output l.outputs (n ∷ [])) (λ ts. no_windows l ts h)))
+    (simp append_assoc) (λ valid. valid)
+grows l (window w) h =
+    grows_by l (window w)
+    (rw (section_end (map window) l.windows w (window w) (from_nodes l) (map-append window l.windows (w ∷ [])) (λ ts. no_nodes l ts h)))
+    (sym (append-nil (declared l))) (λ valid. valid)
+grows l (node i n) h =
+    let parts = and_parts (eqb i (length l.nodes)) (is_nil l.states) h in
     let next : i ≡ length l.nodes = eqb-true i (length l.nodes) parts.0 in
-    let P : Progress → Type 0 = Grown l (node i n) in
-    subst P w.1
-    (record {
-      lines = rw (nil, next)
-          (ap (λ (ts : List LineTree).
-          head_line ∷ (map input l.inputs ++ (map cell l.cells ++ (map output l.outputs ++ (map window l.windows ++ ts)))))
-          (nodes_end l.nodes n));
-      names = sym (append-nil (declared l));
-      valid = λ h k. absurd (pushed l.nodes n k);
-      both = tt;
-    })
-grown l (state i n) q e =
-    let w = when_is (eqb i (length l.states) && not (is_nil l.nodes)) (going (record l { states = l.states ++ n ∷ [] })) q e in
-    let parts = and_parts (eqb i (length l.states)) (not (is_nil l.nodes)) w.0 in
+    let push = section_push node node_lines (λ i. refl) (λ i x xs. refl) 0 i l.nodes n (omega (arith, next)) in
+    grows_by l (node i n)
+    (rw (section_end (node_lines 0) l.nodes n (node i n) (from_states l) push (λ ts. no_states l ts parts.1)))
+    (sym (append-nil (declared l))) (λ valid k. absurd (pushed l.nodes n k))
+grows l (state i n) h =
+    let parts = and_parts (eqb i (length l.states)) (not (is_nil l.nodes)) h in
     let next : i ≡ length l.states = eqb-true i (length l.states) parts.0 in
-    let P : Progress → Type 0 = Grown l (state i n) in
-    subst P w.1
-    (record {
-      lines = rw next
-          (ap (λ (ts : List LineTree).
-          head_line ∷ (map input l.inputs ++ (map cell l.cells ++ (map output l.outputs ++ (map window l.windows
-          ++ (node_lines 0 l.nodes ++ ts))))))
-          (states_end l.states n));
-      names = sym (append-nil (declared l));
-      valid = λ h k. absurd (false≢true (sym (not-true (is_nil l.nodes) parts.1) ∙ k));
-      both = tt;
-    })
-grown l end_line q e =
-    let w = when_is (not (is_nil l.nodes) && not (is_nil l.states)) (done l) q e in
-    let parts = and_parts (not (is_nil l.nodes)) (not (is_nil l.states)) w.0 in
-    let P : Progress → Type 0 = Grown l end_line in
-    subst P w.1
-    (record {
-      lines = refl;
-      names = sym (append-nil (declared l));
-      valid = λ h. h;
-      both = (some_length l.nodes parts.0, some_length l.states parts.1);
-    })
+    let push = section_push state state_lines (λ i. refl) (λ i x xs. refl) 0 i l.states n (omega (arith, next)) in
+    grows_by l (state i n)
+    (rw (section_end (state_lines 0) l.states n (state i n) (λ ts. ts) push (λ ts. refl)))
+    (sym (append-nil (declared l))) (λ valid k. absurd (false≢true (sym (not-true (is_nil l.nodes) parts.1) ∙ k)))
+grows l end_line h =
+    let parts = and_parts (not (is_nil l.nodes)) (not (is_nil l.states)) h in
+    grows_by l end_line refl (sym (append-nil (declared l))) (λ valid. (some_length l.nodes parts.0, some_length l.states parts.1))
 
--- ---- what lines that stand one after another make
+pub grown : (p : Progress) (t : LineTree) (q : Progress) → add p t ≡ Some q → Grown p t q
+grown fresh head_line q e =
+    subst (Grown fresh head_line) (same_Some (going empty_listing) q e) (record { lines = refl; names = refl; in_order = λ h k. refl })
+grown fresh _ q e = absurd (none-some q e)
+grown (going l) t q e =
+    let found = cond_some (may_stand l t) (progress_with l t) q e in subst (Grown (going l) t) found.1 (grows l t found.0)
+grown (done l) t q e = absurd (none-some q e)
 
-pub record Made (lines : List LineTree) (q : Progress) : Type 0 where
-  pub lines_are : lines_so_far q ≡ lines
-  pub names_are : declared (listing_of q) ≡ flat_map declares lines
-  pub valid : is_nil (listing_of q).nodes ≡ true → is_nil (listing_of q).states ≡ true
-  pub both : HasBoth q
-
-pub made_fresh : Made [] fresh
-made_fresh = record { lines_are = refl; names_are = refl; valid = λ h. h; both = tt }
-
-flat_map_push : (lines : List LineTree) (t : LineTree) → flat_map declares (lines ++ t ∷ []) ≡ flat_map declares lines ++ declares t
-flat_map_push [] t = append-nil (declares t)
-flat_map_push (l ∷ lines) t =
-    ap (λ (ns : List Name). declares l ++ ns) (flat_map_push lines t)
-    ∙ sym (append_assoc (declares l) (flat_map declares lines) (declares t))
-
-pub made_more : (lines : List LineTree) (p q : Progress) (t : LineTree) → Made lines p → add p t ≡ Some q → Made (lines ++ t ∷ []) q
-made_more lines fresh q head_line m e =
-    let P : Progress → Type 0 = Made (lines ++ head_line ∷ []) in
-    subst P (same_Some (going empty_listing) q e)
-    (record {
-      lines_are = ap (λ (ts : List LineTree). ts ++ head_line ∷ []) m.lines_are;
-      names_are = m.names_are ∙ sym (append-nil (flat_map declares lines)) ∙ sym (flat_map_push lines head_line);
-      valid = λ h. h;
-      both = tt;
-    })
-made_more lines fresh q _ m e = absurd (none-some q e)
-made_more lines (going l) q t m e =
-    let g = grown l t q e in
-    record {
-      lines_are = g.lines ∙ sym (lines_end l (t ∷ [])) ∙ ap (λ (ts : List LineTree). ts ++ t ∷ []) m.lines_are;
-      names_are = g.names ∙ ap (λ (ns : List Name). ns ++ declares t) m.names_are ∙ sym (flat_map_push lines t);
-      valid = g.valid m.valid;
-      both = g.both;
-    }
-made_more lines (done l) q t m e = absurd (none-some q e)
-
-made_all : (more lines : List LineTree) (p q : Progress) → Made lines p → add_all more p ≡ Some q → Made (lines ++ more) q
-made_all [] lines p q m e =
-    let P : Progress → Type 0 = Made (lines ++ []) in
-    let Q : List LineTree → Type 0 = λ ls. Made ls p in
-    subst P (same_Some p q e) (subst Q (sym (append-nil lines)) m)
-made_all (t ∷ more) lines p q m e = by_add (add p t) refl e (λ r f g. made_all more (lines
-    ++ t ∷ []) r q (made_more lines p r t m f) g) where
-      by_add : (o : Option Progress) → add p t ≡ o → option_and_then (add_all more) o ≡ Some q →
-          ((r : Progress) → add p t ≡ Some r → add_all more r ≡ Some q → Made ((lines ++ t ∷ []) ++ more) q) → Made (lines ++ t ∷ more) q
-      by_add None f g next = absurd (none-some q g)
-      by_add (Some r) f g next =
-          let P : List LineTree → Type 0 = λ ls. Made ls q in
-          subst P (append_assoc lines (t ∷ []) more) (next r f g)
-
-pub listing_made : (l : ListingTree) → 0 < length l.nodes → 0 < length l.states → Made (listing_lines l) (done l)
-listing_made l some_node some_state = made_all (listing_lines l) [] fresh (done l) made_fresh (listing_adds l some_node some_state)
+-- what lines one after another change
+pub grown_all : (ts : List LineTree) (p q : Progress) → add_all ts p ≡ Some q →
+    (lines_so_far q ≡ lines_so_far p ++ ts) × (declared (listing_of q) ≡ declared (listing_of p) ++ flat_map declares ts)
+    × (IsInOrder p → IsInOrder q)
+grown_all [] p q e = subst (λ (r : Progress). (lines_so_far r ≡ lines_so_far p ++ [])
+    × (declared (listing_of r) ≡ declared (listing_of p) ++ []) × (IsInOrder p → IsInOrder r)) (same_Some p q e)
+    (sym (append-nil (lines_so_far p)), sym (append-nil (declared (listing_of p))), λ h. h)
+grown_all (t ∷ ts) p q e =
+    let found = and_then_some (add p t) (add_all ts) q e in
+    let one = grown p t found.0 found.1 in
+    let more = grown_all ts found.0 q found.2 in (
+      more.0 ∙ ap (λ (xs : List LineTree). xs ++ ts) one.lines ∙ append_assoc (lines_so_far p) (t ∷ []) ts,
+      more.1 ∙ ap (λ (ns : List Name). ns ++ flat_map declares ts) one.names
+          ∙ append_assoc (declared (listing_of p)) (declares t) (flat_map declares ts),
+      λ h. more.2 (one.in_order h),
+    )

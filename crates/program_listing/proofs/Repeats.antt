@@ -1,15 +1,11 @@
 -- A reader that is repeated as often as its test holds.
 use Rattle.std.proofs.Common.{◌≡◌, ℕ, zero, suc, ◌<◌, Bool, true, false, cond, List, [], ◌∷◌, ◌++◌, length, Option, Some, None, refl, ap}
-use Rattle.std.proofs.Common.{◌∙◌, append_assoc, arith, map, sym}
+use Rattle.std.proofs.Common.{◌∙◌, append_assoc, arith, map, option_map, sym}
 use Rattle.std.proofs.lemmas.List.{append-nil, map-append}
 use Rattle.program_listing.specs.LineText.{Place}
-use Rattle.program_listing.specs.internal.LineReading.{LineReader, with_first, go_on, repeat_most, repeat}
+use Rattle.program_listing.specs.internal.LineReading.{LineReader, Shrinks, with_first, go_on, repeat_most, repeat}
 
 module _ {A : Type 0} where
-  -- each value that is read takes a byte at least
-  abbrev pub Shrinks : LineReader A → Type 0
-  Shrinks reader = (p : Place) (a : A) (q : Place) → reader p ≡ Some (a, q) → length q.bytes < length p.bytes
-
   module _ (test : List ℕ → Bool) (reader : LineReader A) (shrinks : Shrinks reader) where
     -- more steps than bytes are enough
     enough : (m n : ℕ) (p : Place) → length p.bytes < m → length p.bytes < n →
@@ -27,7 +23,7 @@ module _ {A : Type 0} where
             go_on p (cond t (Some o) None) (repeat_most m test reader) ≡ go_on p (cond t (Some o) None) (repeat_most n test reader)
         by_test false o e more = refl
         by_test true None e more = refl
-        by_test true (Some (a, q)) e more = ap (with_first a) (more q (shrinks p a q e))
+        by_test true (Some r) e more = ap (with_first r.0) (more r.1 (shrinks p r.0 r.1 e))
 
     -- one step, and then the others
     pub repeat_more : (p : Place) (a : A) (q : Place) → test p.bytes ≡ true → reader p ≡ Some (a, q) →
@@ -52,19 +48,11 @@ module _ {A : Type 0} where
   -- ---- loops: the values so far, and then those that are read
 
   abbrev pub joined : List A → Option (List A × Place) → Option (List A × Place)
-  joined front None = None
-  joined front (Some (vs, p)) = Some (front ++ vs, p)
+  joined front read = option_map (λ r. (front ++ r.0, r.1)) read
 
-  pub joined_nil : (o : Option (List A × Place)) → joined [] o ≡ o
-  joined_nil None = refl
-  joined_nil (Some (vs, p)) = refl
-
-  pub joined_more : (front : List A) (a : A) (o : Option (List A × Place)) → joined (front ++ a ∷ []) o ≡ joined front (with_first a o)
+  joined_more : (front : List A) (a : A) (o : Option (List A × Place)) → joined (front ++ a ∷ []) o ≡ joined front (with_first a o)
   joined_more front a None = refl
-  joined_more front a (Some (vs, p)) = ap (λ (xs : List A). Some (xs, p)) (append_assoc front (a ∷ []) vs)
-
-  pub joined_end : (front : List A) (p : Place) → joined front (Some ([], p)) ≡ Some (front, p)
-  joined_end front p = ap (λ (xs : List A). Some (xs, p)) (append-nil front)
+  joined_more front a (Some r) = ap (λ (xs : List A). Some (xs, r.1)) (append_assoc front (a ∷ []) r.0)
 
   -- a loop that keeps what it reads
   module _ {Z : Type 0} (view : Z → A) (test : List ℕ → Bool) (reader : LineReader A) (whole : Option (List A × Place)) where
@@ -82,7 +70,8 @@ module _ {A : Type 0} where
     pub loop_end : (found : List Z) (p : Place) → test p.bytes ≡ false → joined (map view found) (repeat test reader p) ≡ whole →
         whole ≡ Some (map view found, p)
     loop_end found p fails so_far =
-        sym so_far ∙ ap (joined (map view found)) (repeat_end test reader p fails) ∙ joined_end (map view found) p
+        sym so_far ∙ ap (joined (map view found)) (repeat_end test reader p fails)
+        ∙ ap (λ (xs : List A). Some (xs, p)) (append-nil (map view found))
 
     -- something else stands where one should
     pub loop_wrong : (found : List Z) (p : Place) → test p.bytes ≡ true → reader p ≡ None →

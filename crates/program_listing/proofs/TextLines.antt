@@ -1,40 +1,37 @@
 -- The lines of a text lead to a listing exactly where it is that of the text.
-use Rattle.std.proofs.Common.{◌≡◌, ℕ, suc, ◌+◌, ◌-◌, ◌<◌, ◌≤◌, Bool, true, false, ◌&&◌, List, [], ◌∷◌, ◌++◌, length, length-append, take}
-use Rattle.std.proofs.Common.{drop}
+use Rattle.std.proofs.Common.{◌≡◌, ℕ, ◌+◌, ◌-◌, ◌<◌, ◌≤◌, Bool, true, false, ◌&&◌, List, [], ◌∷◌, ◌++◌, length, length-append, take, drop}
 use Rattle.std.proofs.Common.{map, flat_map, codes, Option, Some, None, ◌⊎◌, inl, inr, slice_get, refl, sym, ap, subst, ◌∙◌, append_assoc}
 use Rattle.std.proofs.Common.{arith}
-use Rattle.std.specs.Prelude.{is_none, option_map, option_and_then, if◌then◌else◌}
+use Rattle.std.specs.Prelude.{is_none, is_some, option_and_then, cond}
 use Rattle.std.specs.List.{list_all, AllByRecursion}
-use Rattle.std.specs.Str.{bytes_eq}
-use Rattle.std.proofs.lemmas.Bool.{and_parts, and_from}
-use Rattle.std.proofs.lemmas.Grind.{flat_map-append}
+use Rattle.std.proofs.lemmas.Bool.{and_parts, and_from, false≢true}
 use Rattle.std.proofs.lemmas.List.{append-nil, map-append, drop-append-le, take-append-le, length-drop}
-use Rattle.std.proofs.lemmas.List.Quantifiers.{position-Some}
-use Rattle.std.proofs.lemmas.Option.{none-some, same_Some, slice_get_within}
-use Rattle.std.proofs.Math.Seq.{drop-append-add}
+use Rattle.std.proofs.lemmas.Option.{none-some, same_Some, cond_some}
+use Rattle.std.proofs.Math.Seq.{take-append_seam, drop-append-add}
 use Rattle.sequence.proofs.Options.{is_none_is}
-use Rattle.sequence.proofs.Passes.{list_all_push}
-use Rattle.sequence.proofs.Places.{slice_get_push, slice_get_some, slice_get-front, slice_get-behind}
+use Rattle.sequence.proofs.Places.{slice_get_push, slice_get-behind}
 use Rattle.tsl_text.specs.Written.{is_line, text_of_lines}
 use Rattle.tsl_terms.specs.declared.names.NameKind.TheVariants.{Signal}
-use Rattle.tsl_terms.specs.Name.{AreDistinct, number_of, texts, Name as NameEntry}
-use Rattle.tsl_terms.proofs.FirstUses.{first_of, first_some, not_found, named_is, first_at}
+use Rattle.tsl_terms.specs.Name.{AreDistinct, number_of, Name as NameEntry}
+use Rattle.tsl_terms.proofs.FirstUses.{first_of, first_some, not_found}
+use Rattle.tsl_terms.proofs.NameLemmas.{absent_before}
 use Rattle.line_formats.specs.Machine.{steps, IsText}
 use Rattle.line_formats.proofs.FormatLaws.{and_then_some}
-use Rattle.line_formats.proofs.MachineLaws.{text_append}
 use Rattle.program_listing.specs.declared.listing.Name.{Name}
 use Rattle.program_listing.specs.Listing.{declared_entry, declared, IsListing}
 use Rattle.program_listing.specs.ListingTree.{ListingTree}
-use Rattle.program_listing.specs.LineText.{Piece, word, named, Place, Stand, LineTree, head_line, input, cell, output, window, node, state}
-use Rattle.program_listing.specs.LineText.{end_line, ended_pieces, line_is_within, listing_lines}
-use Rattle.program_listing.specs.internal.LineReading.{read_line}
-use Rattle.program_listing.specs.internal.LineOrder.{Progress, fresh, going, done, may_stand, progress_with, when, add, add_all, listing_of}
-use Rattle.program_listing.specs.internal.LineOrder.{declares, ListingState, start, whole, step}
-use Rattle.program_listing.specs.internal.LineOrder.{is_done, entry_in, entries_in, are_new, state_after, with_line, LiesIn, DeclaresIn}
-use Rattle.program_listing.proofs.LineFeeds.{line_alone, ended_line, line_before_feed}
+use Rattle.program_listing.specs.LineText.{word, named, Place, Stand, LineTree, input, cell, output, ended_pieces, line_is_within}
+use Rattle.program_listing.specs.LineText.{listing_lines}
+use Rattle.program_listing.specs.declared.rest.LineError.{LineError}
+use Rattle.program_listing.specs.declared.rest.LineError.TheVariants.{Form, NoMemory}
+use Rattle.program_listing.specs.internal.LineReading.{IsMisread, read_line}
+use Rattle.program_listing.specs.internal.LineOrder.{Progress, fresh, done, add, add_all, declares, ListingState, start, whole, step}
+use Rattle.program_listing.specs.internal.LineOrder.{step_at, IsRepeated, is_done, entry_in, entries_in, are_new, state_after, if_new}
+use Rattle.program_listing.specs.internal.LineOrder.{with_line, LiesIn, DeclaresIn}
+use Rattle.program_listing.proofs.LineFeeds.{ended_line, line_before_feed}
 use Rattle.program_listing.proofs.LinesRead.{IsLineAt, line_sound, line_complete}
 use Rattle.program_listing.proofs.ListingFacts.{listing_from}
-use Rattle.program_listing.proofs.OrderOfLines.{listing_adds, Made, made_fresh, made_more, listing_made}
+use Rattle.program_listing.proofs.OrderOfLines.{listing_adds, grown_all}
 use Rattle.program_listing.proofs.Standing.{stand_append, stand_split}
 
 -- ---- the name that a line declares
@@ -49,24 +46,16 @@ name_in w n p q s =
     (omega (arith, begin), omega (arith, begin, end), omega (arith, end, bytes))
 
 pub declares_in : (p : Place) (t : LineTree) → IsLineAt p t → DeclaresIn p t
-declares_in p head_line l = tt
 declares_in p (input n) l = (name_in (codes "input ") n p l.end l.stands, tt)
 declares_in p (cell n) l = (name_in (codes "cell ") n p l.end l.stands, tt)
 declares_in p (output n) l = (name_in (codes "output ") n p l.end l.stands, tt)
-declares_in p (window w) l = tt
-declares_in p (node i n) l = tt
-declares_in p (state i n) l = tt
-declares_in p end_line l = tt
+declares_in p _ l = tt
 
 pub few_entries : (p : Place) (t : LineTree) → length (entries_in p t) ≤ 1
-few_entries p head_line = omega arith
 few_entries p (input n) = omega arith
 few_entries p (cell n) = omega arith
 few_entries p (output n) = omega arith
-few_entries p (window w) = omega arith
-few_entries p (node i n) = omega arith
-few_entries p (state i n) = omega arith
-few_entries p end_line = omega arith
+few_entries p _ = omega arith
 
 -- a name has the same bytes in its line and in the text
 same_entries : (front line rest : List ℕ) (at : ℕ) → at ≡ length front → (ns : List Name) →
@@ -117,28 +106,14 @@ distinct_more names (e ∷ []) few new h =
     push_distinct names e (is_none_is (number_of names e.text) (and_parts (is_none (number_of names e.text)) true new).0) h
 distinct_more names (e ∷ f ∷ later) few new h = absurd (omega (arith, few))
 
-length_of_texts : (names : List NameEntry) → length (texts names) ≡ length names
-length_of_texts [] = refl
-length_of_texts (n ∷ names) = ap suc (length_of_texts names)
-
 -- where names are distinct, the later ones are new
 all_new : (names later rest : List NameEntry) → length later ≤ 1 → AreDistinct (names ++ (later ++ rest)) → are_new names later ≡ true
 all_new names [] rest few h = refl
 all_new names (e ∷ f ∷ later) rest few h = absurd (omega (arith, few))
-all_new names (e ∷ []) rest few h = by (number_of names e.text) refl where
-  by : (o : Option ℕ) → number_of names e.text ≡ o → (is_none (number_of names e.text) && true) ≡ true
-  by None x = ap (λ (o : Option ℕ). is_none o && true) x
-  by (Some i) x =
-      let within = (position-Some (bytes_eq e.text) (texts names) i [] x).0 in
-      let entry = slice_get_some names i (omega (arith, within, length_of_texts names)) in
-      let first : first_of names e.text ≡ Some entry.0 =
-      sym (named_is names e.text) ∙ ap (option_and_then (slice_get names)) x ∙ entry.1 in
-      let found = first_at names e.text entry.0 first in
-      let below : found.at < length names = slice_get_within names found.at entry.0 found.there in
-      let same : found.at ≡ length names =
-      h found.at (length names) entry.0 e (slice_get-front names (e ∷ rest) found.at below ∙ found.there) (slice_get-behind names e rest)
-      (sym found.same) in
-      absurd (omega (arith, below, same))
+all_new names (e ∷ []) rest few h =
+    ap (λ (o : Option ℕ). is_none o && true)
+    (ap (λ (ns : List NameEntry). number_of ns e.text) (sym (take-append_seam names (e ∷ rest)))
+    ∙ absent_before (names ++ e ∷ rest) (length names) e.text h (rw (slice_get-behind names e rest) refl))
 
 -- ---- one line more
 
@@ -157,146 +132,110 @@ pub record Stepped (s t : ListingState) (line : List ℕ) : Type 0 where
 pub stepped : (s t : ListingState) (line : List ℕ) → step s line ≡ Some t → Stepped s t line
 stepped s t line h =
     let found = and_then_some (read_line (place_of s line)) (with_line s (place_of s line)) t h in
-    by found.0 found.1 (are_new s.names (entries_in (place_of s line) found.0)) (add s.progress found.0) refl refl found.2
-  where
-    by : (tree : LineTree) → read_line (place_of s line) ≡ Some tree → (b : Bool) (o : Option Progress) →
-        are_new s.names (entries_in (place_of s line) tree) ≡ b → add s.progress tree ≡ o →
-        option_map (state_after s (place_of s line) tree) (if b then o else None) ≡ Some t → Stepped s t line
-    by tree read false o e f k = absurd (none-some t k)
-    by tree read true None e f k = absurd (none-some t k)
-    by tree read true (Some q) e f k = record {
-      tree = tree;
-      progress = q;
-      read = read;
-      new = e;
-      added = f;
-      is = same_Some (state_after s (place_of s line) tree q) t k;
-    }
+    let more = and_then_some (add s.progress found.0) (if_new s (place_of s line) found.0) t found.2 in
+    let p : Place = place_of s line in
+    let last = cond_some (are_new s.names (entries_in p found.0)) (state_after s p found.0 more.0) t more.2 in
+    record { tree = found.0; progress = more.0; read = found.1; new = last.0; added = more.1; is = last.1 }
 
 pub step_is : (s : ListingState) (line : List ℕ) (tree : LineTree) (q : Progress) → read_line (place_of s line) ≡ Some tree →
     are_new s.names (entries_in (place_of s line) tree) ≡ true → add s.progress tree ≡ Some q →
     step s line ≡ Some (state_after s (place_of s line) tree q)
 step_is s line tree q read new added =
-    ap (option_and_then (with_line s (place_of s line))) read
-    ∙ (λ i. option_map (state_after s (place_of s line) tree) (if new i then added i else None))
+    ap (option_and_then (with_line s (place_of s line))) read ∙ ap (option_and_then (if_new s (place_of s line) tree)) added
+    ∙ ap (λ (b : Bool). cond b (Some (state_after s (place_of s line) tree q)) None) new
+
+-- a line that may not stand next, or that declares a name again
+pub refused : (s : ListingState) (bytes : List ℕ) (p : Place) (tree : LineTree) → p ≡ place_of s bytes → read_line p ≡ Some tree →
+    (is_some (add s.progress tree) && are_new s.names (entries_in p tree)) ≡ false → step s bytes ≡ None
+refused s bytes p tree at read h =
+    ap (step_at s) (sym at) ∙ ap (option_and_then (with_line s p)) read ∙ by (add s.progress tree) (are_new s.names (entries_in p tree)) h
+  where
+    by : (o : Option Progress) (b : Bool) → (is_some o && b) ≡ false →
+        option_and_then (λ (q : Progress). cond b (Some (state_after s p tree q)) None) o ≡ None
+    by None b h = refl
+    by (Some q) false h = refl
+    by (Some q) true h = absurd (false≢true (sym h))
+
+neither : {b : Bool} (a : Bool) → b ≡ false → (a && b) ≡ false
+neither false h = refl
+neither true h = h
+
+pub repeated : (s : ListingState) (bytes : List ℕ) (p : Place) (tree : LineTree) → p ≡ place_of s bytes → read_line p ≡ Some tree →
+    (fault : LineError) → IsRepeated (are_new s.names (entries_in p tree)) fault → IsMisread (step s bytes) fault
+repeated s bytes p tree at read Form h =
+    refused s bytes p tree at read (neither (is_some (add s.progress tree)) h)
+repeated s bytes p tree at read NoMemory h = tt
 
 -- ---- what lines say
 
-text_push : (ls : List (List ℕ)) (l : List ℕ) → text_of_lines (ls ++ l ∷ []) ≡ text_of_lines ls ++ (l ++ 10 ∷ [])
-text_push ls l = text_append ls (l ∷ []) ∙ ap (λ (zs : List ℕ). text_of_lines ls ++ zs) (append-nil (l ++ 10 ∷ []))
+-- the lines that are read after those in front, in the text of all
+record Told (ls : List (List ℕ)) (s t : ListingState) (text : List ℕ) : Type 0 where
+  trees : List LineTree
+  adds : add_all trees s.progress ≡ Some t.progress
+  within : list_all line_is_within trees ≡ true
+  stands : Stand (flat_map ended_pieces trees) (record { at = s.at; bytes = text_of_lines ls }) (record { at = t.at; bytes = [] })
+  names : t.names ≡ s.names ++ map (declared_entry text) (flat_map declares trees)
+  distinct : AreDistinct s.names → AreDistinct t.names
 
-front_more : (front l rest : List ℕ) → (front ++ (l ++ 10 ∷ [])) ++ rest ≡ front ++ (l ++ 10 ∷ rest)
-front_more front l rest =
+feed_end : (front l rest : List ℕ) → (front ++ (l ++ 10 ∷ [])) ++ rest ≡ front ++ (l ++ 10 ∷ rest)
+feed_end front l rest =
     append_assoc front (l ++ 10 ∷ []) rest ∙ ap (λ (zs : List ℕ). front ++ zs) (append_assoc l (10 ∷ []) rest)
 
-pub record Told (ls : List (List ℕ)) (s : ListingState) : Type 0 where
-  pub trees : List LineTree
-  pub made : Made trees s.progress
-  pub place : s.at ≡ length (text_of_lines ls)
-  pub within : list_all line_is_within trees ≡ true
-  pub stands : (rest : List ℕ) → Stand (flat_map ended_pieces trees) (record { at = 0; bytes = text_of_lines ls ++ rest })
-      (record { at = s.at; bytes = rest })
-  pub names : (rest : List ℕ) → s.names ≡ map (declared_entry (text_of_lines ls ++ rest)) (declared (listing_of s.progress))
-  pub distinct : AreDistinct s.names
+feed_length : (front l : List ℕ) → length (front ++ (l ++ 10 ∷ [])) ≡ length front + (length l + 1)
+feed_length front l = length-append front (l ++ 10 ∷ []) ∙ ap (λ (n : ℕ). length front + n) (length-append l (10 ∷ []))
 
-pub told_start : Told [] start
-told_start = record {
+told : (ls : List (List ℕ)) (s t : ListingState) (front : List ℕ) → s.at ≡ length front → steps step s ls ≡ Some t →
+    Told ls s t (front ++ text_of_lines ls)
+told [] s t front here h = subst (λ (u : ListingState). Told [] s u (front ++ [])) (same_Some s t h) (record {
   trees = [];
-  made = made_fresh;
-  place = refl;
+  adds = refl;
   within = refl;
-  stands = λ rest. refl;
-  names = λ rest. refl;
-  distinct = λ i j m n there. absurd (none-some m there);
-}
-
-pub told_more : (ls : List (List ℕ)) (s t : ListingState) (l : List ℕ) → Told ls s → step s l ≡ Some t → Told (ls ++ l ∷ []) t
-told_more ls s t l r h = subst (Told (ls ++ l ∷ [])) st.is (record {
-  trees = r.trees ++ st.tree ∷ [];
-  made = made;
-  place =
-      (let len : length (text_of_lines (ls ++ l ∷ [])) ≡ length front + (length l + 1) =
-      ap length (text_push ls l) ∙ length-append front (l ++ 10 ∷ []) ∙ ap (λ (n : ℕ). length front + n) (length-append l (10 ∷ [])) in
-      omega (arith, r.place, len));
-  within = list_all_push line_is_within r.trees st.tree r.within at.within;
-  stands = stands;
-  names = names;
-  distinct = distinct_more s.names (entries_in p st.tree) (few_entries p st.tree) st.new r.distinct;
+  stands = refl;
+  names = sym (append-nil s.names);
+  distinct = λ d. d;
 })
-  where
-    st : Stepped s t l
-    st = stepped s t l h
-
-    p : Place
-    p = place_of s l
-
-    front : List ℕ
-    front = text_of_lines ls
-
-    at : IsLineAt p st.tree
-    at = line_sound p st.tree st.read
-
-    made : Made (r.trees ++ st.tree ∷ []) st.progress
-    made = made_more r.trees s.progress st.progress st.tree r.made st.added
-
-    whole_text : (rest : List ℕ) → text_of_lines (ls ++ l ∷ []) ++ rest ≡ front ++ (l ++ 10 ∷ rest)
-    whole_text rest = ap (λ (zs : List ℕ). zs ++ rest) (text_push ls l) ∙ front_more front l rest
-
-    stands : (rest : List ℕ) → Stand (flat_map ended_pieces (r.trees ++ st.tree ∷ []))
-        (record { at = 0; bytes = text_of_lines (ls ++ l ∷ []) ++ rest }) (record { at = s.at + (length l + 1); bytes = rest })
-    stands rest =
-        let P : List ℕ → Type 0 = λ bytes. Stand (flat_map ended_pieces (r.trees ++ st.tree ∷ [])) (record { at = 0; bytes = bytes })
-        (record { at = s.at + (length l + 1); bytes = rest }) in
-        let Q : List Piece → Type 0 = λ xs. Stand xs (record { at = 0; bytes = front ++ (l ++ 10 ∷ rest) })
-        (record { at = s.at + (length l + 1); bytes = rest }) in
-        subst P (sym (whole_text rest))
-        (subst Q (sym (flat_map-append ended_pieces r.trees (st.tree ∷ [])
-        ∙ ap (λ (xs : List Piece). flat_map ended_pieces r.trees ++ xs) (append-nil (ended_pieces st.tree))))
-        (stand_append (flat_map ended_pieces r.trees) (ended_pieces st.tree) (record { at = 0; bytes = front ++ (l ++ 10 ∷ rest) })
-        (record { at = s.at; bytes = l ++ 10 ∷ rest }) (record { at = s.at + (length l + 1); bytes = rest }) (r.stands (l ++ 10 ∷ rest))
-        (line_before_feed st.tree p at.end at.stands at.ends rest)))
-
-    declared_more : declared (listing_of st.progress) ≡ declared (listing_of s.progress) ++ declares st.tree
-    declared_more =
-        made.names_are ∙ flat_map-append declares r.trees (st.tree ∷ [])
-        ∙ ap (λ (ns : List Name). flat_map declares r.trees ++ ns) (append-nil (declares st.tree))
-        ∙ ap (λ (ns : List Name). ns ++ declares st.tree) (sym r.made.names_are)
-
-    names : (rest : List ℕ) → s.names ++ entries_in p st.tree
-        ≡ map (declared_entry (text_of_lines (ls ++ l ∷ []) ++ rest)) (declared (listing_of st.progress))
-    names rest =
-        let T : List ℕ = front ++ (l ++ 10 ∷ rest) in
-        let own = same_entries front l (10 ∷ rest) s.at r.place (declares st.tree) (declares_in p st.tree at) in
-        (λ i. r.names (l ++ 10 ∷ rest) i ++ sym own i)
-        ∙ sym (map-append (declared_entry T) (declared (listing_of s.progress)) (declares st.tree))
-        ∙ (λ i. map (declared_entry (sym (whole_text rest) i)) (sym declared_more i))
-
-pub told_all : (ls ms : List (List ℕ)) (s t : ListingState) → Told ls s → steps step s ms ≡ Some t → Told (ls ++ ms) t
-told_all ls [] s t r h =
-    let same : s ≡ t = same_Some s t h in
-    let P : List (List ℕ) → Type 0 = λ zs. Told zs t in
-    subst P (sym (append-nil ls)) (subst (Told ls) same r)
-told_all ls (m ∷ ms) s t r h =
-    let found = and_then_some (step s m) (λ u. steps step u ms) t h in
-    let P : List (List ℕ) → Type 0 = λ zs. Told zs t in
-    subst P (append_assoc ls (m ∷ []) ms) (told_all (ls ++ m ∷ []) ms found.0 t (told_more ls s found.0 m r found.1) found.2)
+told (l ∷ ls) s t front here h =
+    let found = and_then_some (step s l) (λ u. steps step u ls) t h in
+    let st = stepped s found.0 l found.1 in
+    let p : Place = place_of s l in
+    let u : ListingState = state_after s p st.tree st.progress in
+    let rest = told ls u t (front ++ (l ++ 10 ∷ [])) (omega (arith, here, feed_length front l))
+    (ap (λ (z : ListingState). steps step z ls) st.is ∙ found.2) in
+    let at : IsLineAt p st.tree = line_sound p st.tree st.read in
+    let own : map (declared_entry (front ++ (l ++ 10 ∷ text_of_lines ls))) (declares st.tree) ≡ entries_in p st.tree =
+    same_entries front l (10 ∷ text_of_lines ls) s.at here (declares st.tree) (declares_in p st.tree at) in
+    let line : (l ++ 10 ∷ []) ++ text_of_lines ls ≡ l ++ 10 ∷ text_of_lines ls = append_assoc l (10 ∷ []) (text_of_lines ls) in
+    let text : List ℕ = front ++ text_of_lines (l ∷ ls) in
+    let same : (front ++ (l ++ 10 ∷ [])) ++ text_of_lines ls ≡ text = append_assoc front (l ++ 10 ∷ []) (text_of_lines ls) in
+    record {
+      trees = st.tree ∷ rest.trees;
+      adds = ap (option_and_then (add_all rest.trees)) st.added ∙ rest.adds;
+      within = and_from (line_is_within st.tree) (list_all line_is_within rest.trees) at.within rest.within;
+      stands = stand_append (ended_pieces st.tree) (flat_map ended_pieces rest.trees) _ (record { at = u.at; bytes = text_of_lines ls }) _
+          (subst (λ (zs : List ℕ). Stand (ended_pieces st.tree) (record { at = s.at; bytes = zs })
+          (record { at = u.at; bytes = text_of_lines ls })) (sym line) (line_before_feed st.tree p at (text_of_lines ls))) rest.stands;
+      names = rest.names ∙ append_assoc s.names (entries_in p st.tree) _
+          ∙ (λ i. s.names ++ (sym (ap (λ (zs : List ℕ). map (declared_entry (front ++ zs)) (declares st.tree)) line ∙ own) i
+          ++ map (declared_entry (same i)) (flat_map declares rest.trees)))
+          ∙ ap (λ (es : List NameEntry). s.names ++ es)
+          (sym (map-append (declared_entry text) (declares st.tree) (flat_map declares rest.trees)));
+      distinct = λ d. rest.distinct (distinct_more s.names (entries_in p st.tree) (few_entries p st.tree) st.new d);
+    }
 
 -- lines that end with the last one are the text of a listing
 pub listing_of_lines : (ls : List (List ℕ)) (t : ListingState) (l : ListingTree) → steps step start ls ≡ Some t → t.progress ≡ done l →
     IsListing (text_of_lines ls) l
 listing_of_lines ls t l says e =
-    let r = told_all [] ls start t told_start says in
     let text : List ℕ = text_of_lines ls in
-    let made : Made r.trees (done l) = subst (Made r.trees) e r.made in
-    let P : List ℕ → Type 0 = λ bytes. Stand (flat_map ended_pieces r.trees) (record { at = 0; bytes = bytes })
-    (record { at = t.at; bytes = [] }) in
-    let Q : List LineTree → Type 0 = λ ts. Stand (flat_map ended_pieces ts) (record { at = 0; bytes = text })
-    (record { at = t.at; bytes = [] }) in
-    let R : List LineTree → Type 0 = λ ts. list_all line_is_within ts ≡ true in
-    let names : t.names ≡ map (declared_entry text) (declared l) =
-    r.names [] ∙ (λ i. map (declared_entry (append-nil text i)) (declared (listing_of (e i)))) in
-    listing_from text l t.at (subst Q (sym made.lines_are) (subst P (append-nil text) (r.stands [])))
-    (subst R (sym made.lines_are) r.within) (subst AreDistinct names r.distinct) made.both.0 made.both.1
+    let r = told ls start t [] refl says in
+    let all = grown_all r.trees fresh (done l) (r.adds ∙ ap Some e) in
+    let both = all.2 tt in
+    let names : t.names ≡ map (declared_entry text) (declared l) = r.names ∙ ap (map (declared_entry text)) (sym all.1) in
+    listing_from text l t.at
+    (subst (λ (ts : List LineTree). Stand (flat_map ended_pieces ts) (record { at = 0; bytes = text }) (record { at = t.at; bytes = [] }))
+    (sym all.0) r.stands)
+    (subst (λ (ts : List LineTree). list_all line_is_within ts ≡ true) (sym all.0) r.within)
+    (subst AreDistinct names (r.distinct (λ i j m n there. absurd (none-some m there)))) both.0 both.1
 
 -- ---- lines that stand are read
 
@@ -304,107 +243,63 @@ pub record Leads (s : ListingState) (bytes : List ℕ) (l : ListingTree) : Type 
   pub lines : List (List ℕ)
   pub end : ListingState
   pub split : bytes ≡ text_of_lines lines
-  pub are_lines : list_all is_line lines ≡ true
-  pub says : steps step s lines ≡ Some end
+  pub is_text : IsText step whole s lines end
   pub done : end.progress ≡ done l
 
 leads : (trees : List LineTree) (s : ListingState) (p : Place) (stop : ℕ) (l : ListingTree) (front : List ℕ) → s.at ≡ p.at →
     p.at ≡ length front → list_all line_is_within trees ≡ true →
     Stand (flat_map ended_pieces trees) p (record { at = stop; bytes = [] }) → add_all trees s.progress ≡ Some (done l) →
     AreDistinct (s.names ++ map (declared_entry (front ++ p.bytes)) (flat_map declares trees)) → Leads s p.bytes l
-leads [] s p stop l front here len h stands adds distinct = record {
-  lines = [];
-  end = s;
-  split = ap (λ (x : Place). x.bytes) stands;
-  are_lines = refl;
-  says = refl;
-  done = same_Some s.progress (done l) adds;
-}
+leads [] s p stop l front here len h stands adds distinct =
+    let last : s.progress ≡ done l = same_Some s.progress (done l) adds in
+    record {
+      lines = [];
+      end = s;
+      split = ap (λ (x : Place). x.bytes) stands;
+      is_text = record { lines = refl; says = refl; done = ap is_done last };
+      done = last;
+    }
 leads (tree ∷ trees) s p stop l front here len h stands adds distinct =
-    by (add s.progress tree) refl adds (λ t front' e n k d. leads trees t m stop l front' e n both.1 parts.2 k d)
-  where
-    parts : (m : Place) × Stand (ended_pieces tree) p m × Stand (flat_map ended_pieces trees) m (record { at = stop; bytes = [] })
-    parts = stand_split (ended_pieces tree) (flat_map ended_pieces trees) p (record { at = stop; bytes = [] }) stands
-
-    m : Place
-    m = parts.0
-
-    both : (line_is_within tree ≡ true) × (list_all line_is_within trees ≡ true)
-    both = and_parts (line_is_within tree) (list_all line_is_within trees) h
-
-    by : (o : Option Progress) → add s.progress tree ≡ o → option_and_then (add_all trees) o ≡ Some (done l) →
-        ((t : ListingState) (front' : List ℕ) → t.at ≡ m.at → m.at ≡ length front' → add_all trees t.progress ≡ Some (done l) →
-        AreDistinct (t.names ++ map (declared_entry (front' ++ m.bytes)) (flat_map declares trees)) → Leads t m.bytes l) →
-        Leads s p.bytes l
-    by None e k others = absurd (none-some (done l) k)
-    by (Some q) e k others =
-        let first = ended_line tree p m both.0 parts.1 in
-        let line : List ℕ = first.bytes in
-        let at : IsLineAt (place_of s line) tree =
-        (let P : ℕ → Type 0 = λ n. IsLineAt (record { at = n; bytes = line }) tree in
-        subst P (sym here) (line_alone tree p m both.0 first)) in
-        let later : List NameEntry = entries_in (place_of s line) tree in
-        let T : List ℕ = front ++ p.bytes in
-        let tail : List NameEntry = map (declared_entry T) (flat_map declares trees) in
-        let whole : T ≡ front ++ (line ++ 10 ∷ m.bytes) = ap (λ (zs : List ℕ). front ++ zs) first.split in
-        let own : map (declared_entry T) (declares tree) ≡ later =
-        ap (λ (zs : List ℕ). map (declared_entry zs) (declares tree)) whole
-        ∙ same_entries front line (10 ∷ m.bytes) s.at (here ∙ len) (declares tree) (declares_in (place_of s line) tree at) in
-        let names : map (declared_entry T) (declares tree ++ flat_map declares trees) ≡ later ++ tail =
-        map-append (declared_entry T) (declares tree) (flat_map declares trees) ∙ ap (λ (es : List NameEntry). es ++ tail) own in
-        let P : List NameEntry → Type 0 = λ es. AreDistinct (s.names ++ es) in
-        let good : AreDistinct (s.names ++ (later ++ tail)) = subst P names distinct in
-        let new = all_new s.names later tail (few_entries (place_of s line) tree) good in
-        let t : ListingState = state_after s (place_of s line) tree q in
-        let front' : List ℕ = front ++ (line ++ 10 ∷ []) in
-        let next : m.at ≡ p.at + (length line + 1) = first.end in
-        let size : length front' ≡ length front + (length line + 1) =
-        length-append front (line ++ 10 ∷ []) ∙ ap (λ (n : ℕ). length front + n) (length-append line (10 ∷ [])) in
-        let rest_text : front' ++ m.bytes ≡ T = front_more front line m.bytes ∙ sym whole in
-        let Q : List ℕ → Type 0 = λ zs. AreDistinct ((s.names ++ later) ++ map (declared_entry zs) (flat_map declares trees)) in
-        let rest = others t front' (omega (arith, here, next)) (omega (arith, len, next, size)) k
-        (subst Q (sym rest_text) (subst AreDistinct (sym (append_assoc s.names later tail)) good)) in
-        record {
-          lines = line ∷ rest.lines;
-          end = rest.end;
-          split =
-              first.split ∙ ap (λ (zs : List ℕ). line ++ 10 ∷ zs) rest.split ∙ sym (append_assoc line (10 ∷ []) (text_of_lines rest.lines));
-          are_lines = and_from (is_line line) (list_all is_line rest.lines) first.is_line rest.are_lines;
-          says = ap (option_and_then (λ u. steps step u rest.lines)) (step_is s line tree q (line_complete (place_of s line) tree at) new e)
-              ∙ rest.says;
-          done = rest.done;
-        }
+    let parts = stand_split (ended_pieces tree) (flat_map ended_pieces trees) p (record { at = stop; bytes = [] }) stands in
+    let m : Place = parts.0 in
+    let both = and_parts (line_is_within tree) (list_all line_is_within trees) h in
+    let found = and_then_some (add s.progress tree) (add_all trees) (done l) adds in
+    let first = ended_line tree p m both.0 parts.1 in
+    let line : List ℕ = first.bytes in
+    let at : IsLineAt (place_of s line) tree = subst (λ (n : ℕ). IsLineAt (record { at = n; bytes = line }) tree) (sym here) first.alone in
+    let later : List NameEntry = entries_in (place_of s line) tree in
+    let text : List ℕ = front ++ p.bytes in
+    let tail : List NameEntry = map (declared_entry text) (flat_map declares trees) in
+    let whole : text ≡ front ++ (line ++ 10 ∷ m.bytes) = ap (λ (zs : List ℕ). front ++ zs) first.split in
+    let own : map (declared_entry text) (declares tree) ≡ later =
+    ap (λ (zs : List ℕ). map (declared_entry zs) (declares tree)) whole
+    ∙ same_entries front line (10 ∷ m.bytes) s.at (here ∙ len) (declares tree) (declares_in (place_of s line) tree at) in
+    let good : AreDistinct (s.names ++ (later ++ tail)) =
+    subst (λ (es : List NameEntry). AreDistinct (s.names ++ es))
+    (map-append (declared_entry text) (declares tree) (flat_map declares trees) ∙ ap (λ (es : List NameEntry). es ++ tail) own) distinct in
+    let new = all_new s.names later tail (few_entries (place_of s line) tree) good in
+    let t : ListingState = state_after s (place_of s line) tree found.0 in
+    let rest = leads trees t m stop l (front ++ (line ++ 10 ∷ [])) (omega (arith, here, first.end))
+    (omega (arith, len, first.end, feed_length front line)) both.1 parts.2 found.2
+    (subst (λ (zs : List ℕ). AreDistinct ((s.names ++ later) ++ map (declared_entry zs) (flat_map declares trees)))
+    (sym (feed_end front line m.bytes ∙ sym whole)) (subst AreDistinct (sym (append_assoc s.names later tail)) good)) in
+    record {
+      lines = line ∷ rest.lines;
+      end = rest.end;
+      split = first.split ∙ ap (λ (zs : List ℕ). line ++ 10 ∷ zs) rest.split ∙ sym (append_assoc line (10 ∷ []) (text_of_lines rest.lines));
+      is_text = record {
+        lines = and_from (is_line line) (list_all is_line rest.lines) first.is_line rest.is_text.lines;
+        says = ap (option_and_then (λ u. steps step u rest.lines))
+            (step_is s line tree found.0 (line_complete (place_of s line) tree at) new found.1) ∙ rest.is_text.says;
+        done = rest.is_text.done;
+      };
+      done = rest.done;
+    }
 
 -- the text of a listing is its lines
 pub listing_leads : (text : List ℕ) (l : ListingTree) → IsListing text l → Leads start text l
 listing_leads text l is =
-    let names : declared l ≡ flat_map declares (listing_lines l) = (listing_made l is.has_node is.has_state).names_are in
+    let adds = listing_adds l is.has_node is.has_state in
+    let names : declared l ≡ flat_map declares (listing_lines l) = (grown_all (listing_lines l) fresh (done l) adds).1 in
     leads (listing_lines l) start (record { at = 0; bytes = text }) is.end l [] refl refl is.within is.in_place
-    (listing_adds l is.has_node is.has_state)
-    (let P : List Name → Type 0 = λ ns. AreDistinct (map (declared_entry text) ns) in subst P names is.declared_once)
-
-pub leads_to_text : (text : List ℕ) (l : ListingTree) → (r : Leads start text l) → IsText step whole start r.lines r.end
-leads_to_text text l r = record {
-  lines = r.are_lines;
-  says = r.says;
-  done = ap is_done r.done;
-}
-
--- a line that was added begins the text
-pub never_fresh : (p q : Progress) (t : LineTree) → add p t ≡ Some q → q ≡ fresh → ⊥
-never_fresh p q t h e = by p t (h ∙ ap Some e) where
-  by : (p : Progress) (t : LineTree) → add p t ≡ Some fresh → ⊥
-  by fresh head_line k = absurd cc
-  by fresh _ k = none-some fresh k
-  by (done l) t k = none-some fresh k
-  by (going l) t k = added_fresh (may_stand l t) t k where
-    added_fresh : (b : Bool) (t : LineTree) → when b (progress_with l t) ≡ Some fresh → ⊥
-    added_fresh false t k = none-some fresh k
-    added_fresh true head_line k = absurd cc
-    added_fresh true (input n) k = absurd cc
-    added_fresh true (cell n) k = absurd cc
-    added_fresh true (output n) k = absurd cc
-    added_fresh true (window w) k = absurd cc
-    added_fresh true (node i n) k = absurd cc
-    added_fresh true (state i n) k = absurd cc
-    added_fresh true end_line k = absurd cc
+    adds (subst (λ (ns : List Name). AreDistinct (map (declared_entry text) ns)) names is.declared_once)

@@ -13,6 +13,7 @@ mod line;
 mod listing;
 mod listing_laws;
 mod listing_reader;
+mod repeated;
 mod rest;
 mod surfaces;
 mod words;

@@ -1,17 +1,17 @@
 //! The lines of program texts, each by itself.
 
-ghost use Rattle.std.specs.Prelude.{◌≡◌, ◌∷◌, ◌++◌, codes, map, option_map, Some, None, IfOk, IfErr, IfSome, IfNone};
+ghost use Rattle.std.specs.Prelude.{◌≡◌, option_map, Some, None, IfOk, IfErr};
 ghost use Rattle.tsl_text.specs.Lines.{has_bytes};
 ghost use Rattle.program_listing.specs.ListingTree.{surface_tree, update_line, listed_line, placed_line, window_line, node_line};
-ghost use Rattle.program_listing.specs.LineText.{head_line, input, cell, output, window, node, state, end_line};
-ghost use Rattle.program_listing.specs.internal.LineReading.{left_place, IsMisread, IsReadAs, IsUnread, past, prefixed, repeat, at_end};
-ghost use Rattle.program_listing.specs.internal.LineReading.{value_at_end, first_name, first_number, surface, line_tree, update};
-ghost use Rattle.program_listing.specs.internal.LineReading.{update_follows, set_update, listed, listed_follows, placed, equated, left_side};
-ghost use Rattle.program_listing.specs.internal.LineReading.{window_rest, branch_rest, assignment_rest, node_rest, numbered_node, numbered_state, read_line};
+ghost use Rattle.program_listing.specs.internal.LineReading.{left_place, IsMisread, IsReadAs, IsUnread, past, prefixed, first_name};
+ghost use Rattle.program_listing.specs.internal.LineReading.{first_number, surface, line_tree, line, update, update_follows, set_update};
+ghost use Rattle.program_listing.specs.internal.LineReading.{listed, listed_follows, placed, equated, left_side, window_rest, branch_rest};
+ghost use Rattle.program_listing.specs.internal.LineReading.{assignment_rest, node_rest, numbered_node, numbered_state, read_line};
 
 use crate::listing::{
     Name, SpelledListed, SpelledNode, SpelledPlaced, SpelledUpdate, SpelledWindow, SurfaceTerm,
 };
+use crate::repeated::{Part, repeated};
 use crate::rest::{LineError, Reading, Rest};
 use crate::surfaces::surface;
 use crate::words::{expect, first_name, first_number, past};
@@ -94,22 +94,6 @@ fn set_update(alloc: Global, left: Rest<'_>) -> Reading<'_, SpelledUpdate>
     Ok((SpelledUpdate { signal, term }, rest))
 }
 
-/// The updates of an assignment, which may be none.
-fn set_updates(alloc: Global, left: Rest<'_>) -> Reading<'_, Vec<SpelledUpdate>>
-    ensures ok { IfOk result
-        (IsReadAs (λ us. map update_line us.items) (repeat update_follows set_update) left.entry) }
-    ensures wrong { IfErr result (IsUnread (repeat update_follows set_update) left.entry) }
-{
-    let mut found = Vec::new(alloc);
-    let mut rest = left;
-    while update_follows(rest.bytes) {
-        let (update, later) = set_update(alloc, rest)?;
-        found.push(update)?;
-        rest = later;
-    }
-    Ok((found, rest))
-}
-
 /// An update that a window lists.
 fn listed(alloc: Global, left: Rest<'_>) -> Reading<'_, SpelledListed>
     ensures ok { IfOk result (IsReadAs listed_line listed left.entry) }
@@ -135,24 +119,8 @@ fn listed_follows(bytes: &[u8]) -> bool
     bytes.strip_prefix(b" when [").is_some()
 }
 
-/// The updates that a window lists, which may be none.
-fn listed_updates(alloc: Global, left: Rest<'_>) -> Reading<'_, Vec<SpelledListed>>
-    ensures ok { IfOk result
-        (IsReadAs (λ us. map listed_line us.items) (repeat listed_follows listed) left.entry) }
-    ensures wrong { IfErr result (IsUnread (repeat listed_follows listed) left.entry) }
-{
-    let mut found = Vec::new(alloc);
-    let mut rest = left;
-    while listed_follows(rest.bytes) {
-        let (update, later) = listed(alloc, rest)?;
-        found.push(update)?;
-        rest = later;
-    }
-    Ok((found, rest))
-}
-
 /// Whether there is a byte.
-pub fn has_bytes(bytes: &[u8]) -> bool
+fn has_bytes(bytes: &[u8]) -> bool
     ensures { result ≡ has_bytes bytes.now }
 {
     !matches!(bytes, [])
@@ -177,20 +145,69 @@ fn equated(alloc: Global, left: Rest<'_>) -> Reading<'_, SpelledPlaced>
     placed(alloc, rest)
 }
 
-/// The equalities that a window lists, to the end of its line.
-fn listed_equalities(alloc: Global, left: Rest<'_>) -> Reading<'_, Vec<SpelledPlaced>>
-    ensures ok { IfOk result
-        (IsReadAs (λ es. map placed_line es.items) (repeat has_bytes equated) left.entry) }
-    ensures wrong { IfErr result (IsUnread (repeat has_bytes equated) left.entry) }
-{
-    let mut found = Vec::new(alloc);
-    let mut rest = left;
-    while has_bytes(rest.bytes) {
-        let (equality, later) = equated(alloc, rest)?;
-        found.push(equality)?;
-        rest = later;
+impl Part for SpelledUpdate {
+    ghost use Rattle.program_listing.specs.ListingTree.{UpdateLine, update_line};
+    ghost use Rattle.program_listing.specs.internal.LineReading.{update_follows, set_update};
+
+    ghost Tree = { UpdateLine };
+
+    ghost tree = { update_line };
+
+    ghost stands = { update_follows };
+
+    ghost reader = { set_update };
+
+    fn stands(bytes: &[u8]) -> bool {
+        update_follows(bytes)
     }
-    Ok((found, rest))
+
+    fn read(alloc: Global, left: Rest<'_>) -> Reading<'_, SpelledUpdate> {
+        set_update(alloc, left)
+    }
+}
+
+impl Part for SpelledListed {
+    ghost use Rattle.program_listing.specs.ListingTree.{ListedLine, listed_line};
+    ghost use Rattle.program_listing.specs.internal.LineReading.{listed_follows, listed};
+
+    ghost Tree = { ListedLine };
+
+    ghost tree = { listed_line };
+
+    ghost stands = { listed_follows };
+
+    ghost reader = { listed };
+
+    fn stands(bytes: &[u8]) -> bool {
+        listed_follows(bytes)
+    }
+
+    fn read(alloc: Global, left: Rest<'_>) -> Reading<'_, SpelledListed> {
+        listed(alloc, left)
+    }
+}
+
+/// Equalities are listed to the end of a line.
+impl Part for SpelledPlaced {
+    ghost use Rattle.tsl_text.specs.Lines.{has_bytes};
+    ghost use Rattle.program_listing.specs.ListingTree.{PlacedLine, placed_line};
+    ghost use Rattle.program_listing.specs.internal.LineReading.{equated};
+
+    ghost Tree = { PlacedLine };
+
+    ghost tree = { placed_line };
+
+    ghost stands = { has_bytes };
+
+    ghost reader = { equated };
+
+    fn stands(bytes: &[u8]) -> bool {
+        has_bytes(bytes)
+    }
+
+    fn read(alloc: Global, left: Rest<'_>) -> Reading<'_, SpelledPlaced> {
+        equated(alloc, left)
+    }
 }
 
 /// What stands before a window's right test: `true`, or the left test and its step.
@@ -213,8 +230,8 @@ fn window(alloc: Global, left: Rest<'_>) -> Reading<'_, SpelledWindow>
 {
     let (left_test, rest) = left_side(alloc, left)?;
     let (right, rest) = placed(alloc, rest)?;
-    let (updates, rest) = listed_updates(alloc, rest)?;
-    let (equalities, rest) = listed_equalities(alloc, rest)?;
+    let (updates, rest) = repeated::<SpelledListed>(alloc, rest)?;
+    let (equalities, rest) = repeated::<SpelledPlaced>(alloc, rest)?;
     Ok((
         SpelledWindow {
             left: left_test,
@@ -249,7 +266,7 @@ fn assignment(alloc: Global, left: Rest<'_>) -> Reading<'_, SpelledNode>
     ensures ok { IfOk result (IsReadAs node_line assignment_rest left.entry) }
     ensures wrong { IfErr result (IsUnread assignment_rest left.entry) }
 {
-    let (updates, rest) = set_updates(alloc, left)?;
+    let (updates, rest) = repeated::<SpelledUpdate>(alloc, left)?;
     let (go, rest) = number_after(rest, b" go ")?;
     Ok((SpelledNode::Assignment { updates, go }, rest))
 }
@@ -266,70 +283,60 @@ fn node(alloc: Global, left: Rest<'_>) -> Reading<'_, SpelledNode>
     assignment(alloc, rest)
 }
 
-/// A node with its number, to the end of its line.
-fn numbered_node(alloc: Global, left: Rest<'_>) -> Result<(u64, SpelledNode), LineError>
-    ensures ok { IfOk result (λ read.
-        at_end (numbered_node (left_place left.entry)) ≡ Some (read.0, node_line read.1)) }
-    ensures wrong { IfErr result (IsMisread (at_end (numbered_node (left_place left.entry)))) }
+/// A node with its number.
+fn numbered_node(alloc: Global, left: Rest<'_>) -> Reading<'_, (u64, SpelledNode)>
+    ensures ok { IfOk result (IsReadAs (λ n. (n.0, node_line n.1)) numbered_node left.entry) }
+    ensures wrong { IfErr result (IsUnread numbered_node left.entry) }
 {
     let (number, rest) = first_number(left)?;
     let (node, rest) = node(alloc, rest)?;
-    if has_bytes(rest.bytes) {
-        return Err(LineError::Form);
-    }
-    Ok((number, node))
+    Ok(((number, node), rest))
 }
 
-/// A state with its number, to the end of its line.
-fn numbered_state(left: Rest<'_>) -> Result<(u64, u64), LineError>
-    ensures ok { IfOk result (λ read.
-        at_end (numbered_state (left_place left.entry)) ≡ Some (read.0, read.1)) }
-    ensures wrong { IfErr result (IsMisread (at_end (numbered_state (left_place left.entry)))) }
+/// A state with its number.
+fn numbered_state(left: Rest<'_>) -> Reading<'_, (u64, u64)>
+    ensures ok { IfOk result (IsReadAs (λ n. (n.0, n.1)) numbered_state left.entry) }
+    ensures wrong { IfErr result (IsUnread numbered_state left.entry) }
 {
     let (number, rest) = first_number(left)?;
     let (node, rest) = number_after(rest, b" at ")?;
-    if has_bytes(rest.bytes) {
-        return Err(LineError::Form);
-    }
-    Ok((number, node))
+    Ok(((number, node), rest))
 }
 
-/// A window after its first word, to the end of its line.
-fn whole_window(alloc: Global, left: Rest<'_>) -> Result<SpelledWindow, LineError>
-    ensures ok { IfOk result (λ read.
-        at_end (window_rest (left_place left.entry)) ≡ Some (window_line read)) }
-    ensures wrong { IfErr result (IsMisread (at_end (window_rest (left_place left.entry)))) }
+/// A line, without its line feed.
+fn front_line(alloc: Global, left: Rest<'_>) -> Reading<'_, Line>
+    ensures ok { IfOk result (IsReadAs line_tree line left.entry) }
+    ensures wrong { IfErr result (IsUnread line left.entry) }
 {
-    let (window, rest) = window(alloc, left)?;
-    if has_bytes(rest.bytes) {
-        return Err(LineError::Form);
+    if let Some(rest) = past(left, b"input ") {
+        let (name, rest) = first_name(rest)?;
+        return Ok((Line::Input(name), rest));
     }
-    Ok(window)
-}
-
-/// A name, to the end of its line.
-fn whole_name(left: Rest<'_>) -> Result<Name, LineError>
-    ensures ok { IfOk result (λ name. at_end (first_name (left_place left.entry)) ≡ Some name) }
-    ensures wrong { IfErr result (IsMisread (at_end (first_name (left_place left.entry)))) }
-{
-    let (name, rest) = first_name(left)?;
-    if has_bytes(rest.bytes) {
-        return Err(LineError::Form);
+    if let Some(rest) = past(left, b"cell ") {
+        let (name, rest) = first_name(rest)?;
+        return Ok((Line::Cell(name), rest));
     }
-    Ok(name)
-}
-
-/// The line, where nothing is left of it.
-fn whole(line: Line, left: Rest<'_>) -> Result<Line, LineError>
-    ensures ok { IfOk result (λ read.
-        value_at_end (line_tree line) (left_place left.entry).bytes ≡ Some (line_tree read)) }
-    ensures wrong { IfErr result
-        (IsMisread (value_at_end (line_tree line) (left_place left.entry).bytes)) }
-{
-    if has_bytes(left.bytes) {
-        return Err(LineError::Form);
+    if let Some(rest) = past(left, b"output ") {
+        let (name, rest) = first_name(rest)?;
+        return Ok((Line::Output(name), rest));
     }
-    Ok(line)
+    if let Some(rest) = past(left, b"window ") {
+        let (window, rest) = window(alloc, rest)?;
+        return Ok((Line::Window(window), rest));
+    }
+    if let Some(rest) = past(left, b"node ") {
+        let ((number, node), rest) = numbered_node(alloc, rest)?;
+        return Ok((Line::Node(number, node), rest));
+    }
+    if let Some(rest) = past(left, b"state ") {
+        let ((number, node), rest) = numbered_state(rest)?;
+        return Ok((Line::State(number, node), rest));
+    }
+    if let Some(rest) = past(left, b"tslprogram 1") {
+        return Ok((Line::Head, rest));
+    }
+    let rest = expect(left, b"end")?;
+    Ok((Line::End, rest))
 }
 
 /// The line that the bytes are, without their line feed.
@@ -337,29 +344,9 @@ pub fn read_line(alloc: Global, left: Rest<'_>) -> Result<Line, LineError>
     ensures ok { IfOk result (λ line. read_line (left_place left.entry) ≡ Some (line_tree line)) }
     ensures wrong { IfErr result (IsMisread (read_line (left_place left.entry))) }
 {
-    if let Some(rest) = past(left, b"input ") {
-        return Ok(Line::Input(whole_name(rest)?));
+    let (line, rest) = front_line(alloc, left)?;
+    if has_bytes(rest.bytes) {
+        return Err(LineError::Form);
     }
-    if let Some(rest) = past(left, b"cell ") {
-        return Ok(Line::Cell(whole_name(rest)?));
-    }
-    if let Some(rest) = past(left, b"output ") {
-        return Ok(Line::Output(whole_name(rest)?));
-    }
-    if let Some(rest) = past(left, b"window ") {
-        return Ok(Line::Window(whole_window(alloc, rest)?));
-    }
-    if let Some(rest) = past(left, b"node ") {
-        let (number, node) = numbered_node(alloc, rest)?;
-        return Ok(Line::Node(number, node));
-    }
-    if let Some(rest) = past(left, b"state ") {
-        let (number, node) = numbered_state(rest)?;
-        return Ok(Line::State(number, node));
-    }
-    if let Some(rest) = past(left, b"tslprogram 1") {
-        return whole(Line::Head, rest);
-    }
-    let rest = expect(left, b"end")?;
-    whole(Line::End, rest)
+    Ok(line)
 }

@@ -1,22 +1,20 @@
 //! The lines of a program text are read one after another.
 
-ghost use Rattle.std.specs.Prelude.{◌≡◌, ◌+◌, ◌<◌, ◌≤◌, ◌^◌, ◌++◌, ◌∷◌, [], true, is_none, is_some, length, Some, None, IfOk, IfErr};
-ghost use Rattle.std.specs.Prelude.{OnOk, IfSome, IfNone};
-ghost use Rattle.std.specs.List.{prefix_len};
-ghost use Rattle.tsl_text.specs.Lines.{is_line_byte};
+ghost use Rattle.std.specs.Prelude.{◌≡◌, ◌+◌, ◌<◌, ◌^◌, ◌++◌, ◌∷◌, [], true, false, is_none, is_some, length, None, Ok, Err, IfOk, IfErr};
+ghost use Rattle.std.specs.Prelude.{OnOk, IfSome, IfNone, Some};
 ghost use Rattle.tsl_terms.specs.Name.{number_of};
-ghost use Rattle.program_listing.specs.ListingTree.{listing_tree, empty_listing};
+ghost use Rattle.program_listing.specs.ListingTree.{listing_tree};
 ghost use Rattle.program_listing.specs.Listing.{IsListing};
 ghost use Rattle.program_listing.specs.ListingFault.{HasListingFault};
 ghost use Rattle.program_listing.specs.internal.LineReading.{left_place, line_tree, IsMisread};
-ghost use Rattle.program_listing.specs.internal.LineOrder.{fresh, is_done, no_node, no_window, no_output, no_cell, may_stand, add, declares};
-ghost use Rattle.program_listing.specs.internal.LineOrder.{entry_in, entries_in, are_new, cut, next_line, progress_of, state_of, error_at};
-ghost use Rattle.program_listing.specs.internal.LineOrder.{DeclaresIn, LiesIn, IsRepeated};
+ghost use Rattle.program_listing.specs.internal.LineOrder.{ListingState, start, step, whole, is_done, no_node, no_window, no_output};
+ghost use Rattle.program_listing.specs.internal.LineOrder.{no_cell, may_stand, add, declares, entries_in, are_new, progress_of};
+ghost use Rattle.program_listing.specs.internal.LineOrder.{reader_state, DeclaresIn, IsRepeated};
 
-use crate::line::{Line, has_bytes, read_line};
+use crate::line::{Line, read_line};
 use crate::listing::{ListingError, Name, ProgramSyntax};
 use crate::rest::{LineError, Rest};
-use crate::words::skip;
+use line_formats::{LastLine, LineReader, TextError, read_text};
 use sequence::NoMemory;
 use std::alloc::Global;
 use tsl_terms::{NameKind, Names};
@@ -41,38 +39,30 @@ pub struct Begun {
     pub stage: Stage,
 }
 
-/// What is left before any line was read.
-fn start_of(text: &[u8]) -> Rest<'_>
-    requires { length text.now < 2 ^ 32 }
-    ensures { left_place result ≡ record { at = 0; bytes = text.now } }
-{
-    Rest { at: 0, bytes: text }
+/// What was read so far.
+#[derive(Drop)]
+pub struct ListingReader {
+    /// Where memory is taken.
+    pub alloc: Global,
+    /// Where the next line begins.
+    pub at: u32,
+    /// The names that are declared.
+    pub names: Names,
+    /// The listing so far.
+    pub begun: Begun,
 }
 
-/// The first line that is left, without its line feed, and what is left after it. `None` where no
-/// line feed is left.
-fn cut(left: Rest<'_>) -> Option<(Rest<'_>, Rest<'_>)>
-    ensures some { IfSome result (λ parts.
-        cut (left_place left.entry) ≡ Some (left_place parts.0, left_place parts.1)) }
-    ensures none { IfNone result (cut (left_place left.entry) ≡ None) }
+/// A line that begins at this place, and where the next one begins. An `Err` says that the place is
+/// too far behind to be counted.
+fn line_at(at: u32, bytes: &[u8]) -> Result<(Rest<'_>, u32), NoMemory>
+    ensures line { IfOk result (λ found.
+        left_place found.0 ≡ record { at = at; bytes = bytes.now }) }
+    ensures next { IfOk result (λ found. found.1 ≡ at + (length bytes.now + 1)) }
 {
-    let len = line_len(left.bytes);
-    if len >= left.bytes.len() {
-        return None;
+    if bytes.len() >= (u32::MAX - at) as usize {
+        return Err(NoMemory);
     }
-    let line = Rest {
-        at: left.at,
-        bytes: &left.bytes[..len],
-    };
-    Some((line, skip(left, len + 1)))
-}
-
-/// How many bytes stand before the first line feed, or in all where there is none.
-fn line_len(bytes: &[u8]) -> usize
-    ensures value { result ≡ prefix_len is_line_byte bytes.now }
-    ensures bound { result ≤ length bytes.now }
-{
-    bytes.iter().take_while(|byte| **byte != b'\n').count()
+    Ok((Rest { at, bytes }, at + (bytes.len() as u32 + 1)))
 }
 
 /// Whether neither a node nor a state stands yet.
@@ -145,15 +135,16 @@ fn is_done(begun: &Begun) -> bool
 }
 
 /// Adds a line that may stand next. An `Err` says that memory ran out.
-fn insert(begun: &mut Begun, line: Line) -> Result<(), NoMemory>
-    requires may_come { is_some (add (progress_of begun.old) (line_tree line)) ≡ true }
-    requires empty { progress_of begun.old ≡ fresh →
-        listing_tree begun.old.listing ≡ empty_listing }
+fn insert(alloc: Global, begun: &mut Begun, line: Line) -> Result<(), NoMemory>
+    requires { is_some (add (progress_of begun.old) (line_tree line)) ≡ true }
     ensures { OnOk result
         (add (progress_of begun.old) (line_tree line) ≡ Some (progress_of begun.new)) }
 {
     match line {
-        Line::Head => begun.stage = Stage::Going,
+        Line::Head => {
+            begun.listing = ProgramSyntax::new(alloc);
+            begun.stage = Stage::Going;
+        }
         Line::Input(name) => begun.listing.inputs.push(name)?,
         Line::Cell(name) => begun.listing.cells.push(name)?,
         Line::Output(name) => begun.listing.outputs.push(name)?,
@@ -178,8 +169,7 @@ fn declared_name(line: &Line) -> Option<Name>
 
 /// Adds the name that the line at this place declares to those that were declared before.
 fn declare(names: &mut Names, place: Rest<'_>, line: &Line) -> Result<(), LineError>
-    requires within { DeclaresIn (left_place place) (line_tree line.now) }
-    requires levels_left { length names.old + 1 < 2 ^ 32 }
+    requires { DeclaresIn (left_place place) (line_tree line.now) }
     ensures new { OnOk result
         (are_new names.old (entries_in (left_place place.entry) (line_tree line.now)) ≡ true) }
     ensures added { OnOk result
@@ -197,9 +187,8 @@ fn declare(names: &mut Names, place: Rest<'_>, line: &Line) -> Result<(), LineEr
     }
 }
 
-/// Adds a signal to the names, if it is none of them.
+/// Adds a signal to the names, if it is none of them. No more than 2^32 - 1 names are kept.
 fn declare_name(names: &mut Names, text: &[u8]) -> Result<(), LineError>
-    requires levels_left { length names.old + 1 < 2 ^ 32 }
     ensures new { OnOk result (is_none (number_of names.old text.now) ≡ true) }
     ensures added { OnOk result (names.new
         ≡ names.old ++ (record { text = text.now; kind = NameKind.Signal; arity = 0 }) ∷ []) }
@@ -208,74 +197,83 @@ fn declare_name(names: &mut Names, text: &[u8]) -> Result<(), LineError>
     if names.find(text).is_some() {
         return Err(LineError::Form);
     }
+    if names.count() == u32::MAX {
+        return Err(LineError::NoMemory);
+    }
     names.add(text, NameKind::Signal, 0)?;
     Ok(())
 }
 
-/// Reads the next line, and answers what is left after it.
-fn next_line<'a>(
-    alloc: Global,
-    left: Rest<'a>,
-    begun: &mut Begun,
-    names: &mut Names,
-) -> Result<Rest<'a>, LineError>
-    requires levels_left { length names.old + 1 < 2 ^ 32 }
-    requires empty { progress_of begun.old ≡ fresh →
-        listing_tree begun.old.listing ≡ empty_listing }
-    ensures later { IfOk result (λ later. IfSome (cut (left_place left.entry)) (λ parts.
-        parts.1 ≡ left_place later)) }
-    ensures ok { IfOk result (λ later.
-        next_line (state_of left.entry.at begun.old names.old) (left_place left.entry)
-        ≡ Some (state_of later.at begun.new names.new)) }
-    ensures begun { OnOk result (progress_of begun.new ≡ fresh → ⊥) }
-    ensures wrong { IfErr result (IsMisread
-        (next_line (state_of left.entry.at begun.old names.old) (left_place left.entry))) }
-{
-    let Some((line, later)) = cut(left) else {
-        return Err(LineError::Form);
-    };
-    let read = read_line(alloc, line)?;
-    if !may_come(begun, &read) {
-        return Err(LineError::Form);
+impl ListingReader {
+    /// Before any line was read.
+    fn new(alloc: Global) -> ListingReader
+        ensures { reader_state result ≡ start }
+    {
+        ListingReader {
+            alloc,
+            at: 0,
+            names: Names::new(alloc),
+            begun: Begun {
+                listing: ProgramSyntax::new(alloc),
+                stage: Stage::Fresh,
+            },
+        }
     }
-    declare(names, line, &read)?;
-    insert(begun, read)?;
-    Ok(later)
-}
 
-/// The error of a line.
-fn at_line(fault: LineError, number: u32) -> ListingError
-    ensures { result ≡ error_at fault number }
-{
-    match fault {
-        LineError::Form => ListingError::Form(number),
-        LineError::NoMemory => ListingError::NoMemory,
+    /// Takes one more line.
+    fn take_line(&mut self, bytes: &[u8]) -> Result<(), LineError>
+        ensures ok { OnOk result
+            (step (reader_state self.old) bytes.now ≡ Some (reader_state self.new)) }
+        ensures wrong { IfErr result (IsMisread (step (reader_state self.old) bytes.now)) }
+    {
+        let (line, next) = line_at(self.at, bytes)?;
+        let read = read_line(self.alloc, line)?;
+        if !may_come(&self.begun, &read) {
+            return Err(LineError::Form);
+        }
+        declare(&mut self.names, line, &read)?;
+        insert(self.alloc, &mut self.begun, read)?;
+        self.at = next;
+        Ok(())
     }
 }
 
-/// The listing of a text. An `Err` tells the first line at fault, or that memory ran out.
+impl LineReader for ListingReader {
+    ghost State = { ListingState };
+
+    ghost step = { step };
+
+    ghost whole = { whole };
+
+    ghost state = { reader_state };
+
+    fn read_line(&mut self, line: &[u8]) -> Result<bool, NoMemory> {
+        match self.take_line(line) {
+            Ok(()) => Ok(true),
+            Err(LineError::Form) => Ok(false),
+            Err(LineError::NoMemory) => Err(NoMemory),
+        }
+    }
+
+    fn is_whole(&self) -> bool {
+        is_done(&self.begun)
+    }
+}
+
+/// The listing of a text. An `Err` tells the first line at fault, or that memory ran out, as it does
+/// for the longest text of all, whose lines might be too many to be counted.
 pub fn read_listing(alloc: Global, text: &[u8]) -> Result<ProgramSyntax, ListingError>
     requires { length text.now < 2 ^ 32 }
     ensures ok { IfOk result (λ listing. IsListing text.now (listing_tree listing)) }
     ensures fault { IfErr result (HasListingFault text.now) }
 {
-    let mut left = start_of(text);
-    let mut begun = Begun {
-        listing: ProgramSyntax::new(alloc),
-        stage: Stage::Fresh,
-    };
-    let mut names = Names::new(alloc);
-    let mut number = 1u32;
-    while has_bytes(left.bytes) {
-        left = match next_line(alloc, left, &mut begun, &mut names) {
-            Ok(later) => later,
-            Err(fault) => return Err(at_line(fault, number)),
-        };
-        number += 1;
+    if text.len() == u32::MAX as usize {
+        return Err(ListingError::NoMemory);
     }
-    if is_done(&begun) {
-        Ok(begun.listing)
-    } else {
-        Err(ListingError::Form(number))
+    let mut reader = ListingReader::new(alloc);
+    match read_text(&mut reader, text, LastLine::Ended) {
+        Ok(()) => Ok(reader.begun.listing),
+        Err(TextError::Form(line)) => Err(ListingError::Form(line)),
+        Err(TextError::NoMemory) => Err(ListingError::NoMemory),
     }
 }

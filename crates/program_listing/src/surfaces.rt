@@ -6,7 +6,8 @@ ghost use Rattle.tsl_text.specs.Names.{is_name_start};
 ghost use Rattle.program_listing.specs.ListingTree.{surface_tree};
 ghost use Rattle.program_listing.specs.internal.LineReading.{IsReadAs, IsUnread, begins, is_open, number_follows, argument_begins};
 ghost use Rattle.program_listing.specs.internal.LineReading.{argument_follows, short, argument_surface, spaced_argument, arguments};
-ghost use Rattle.program_listing.specs.internal.LineReading.{surface_of, surface_with, has_arguments, only_applied, surface_in_brackets, surface};
+ghost use Rattle.program_listing.specs.internal.LineReading.{surface_of, surface_with, has_arguments, only_applied, bracketed};
+ghost use Rattle.program_listing.specs.internal.LineReading.{surface_in_brackets, surface};
 
 use crate::listing::{Name, SurfaceTerm, SurfaceTermList};
 use crate::rest::{LineError, Reading, Rest};
@@ -91,20 +92,6 @@ fn one_level_less(levels_left: u32) -> Option<u32>
     levels_left.checked_sub(1)
 }
 
-/// A surface term that has arguments, with the closing bracket after it.
-fn close(surface: SurfaceTerm, left: Rest<'_>) -> Reading<'_, SurfaceTerm>
-    ensures ok { IfOk result
-        (IsReadAs surface_tree (λ p. only_applied (Some (surface_tree surface, p))) left.entry) }
-    ensures wrong { IfErr result
-        (IsUnread (λ p. only_applied (Some (surface_tree surface, p))) left.entry) }
-{
-    if !has_arguments(&surface) {
-        return Err(LineError::Form);
-    }
-    let rest = expect(left, b")")?;
-    Ok((surface, rest))
-}
-
 /// Whether the surface term has arguments.
 fn has_arguments(surface: &SurfaceTerm) -> bool
     ensures { result ≡ has_arguments (surface_tree surface.now) }
@@ -115,18 +102,45 @@ fn has_arguments(surface: &SurfaceTerm) -> bool
     )
 }
 
+/// A surface term that has arguments, where so many levels of brackets are left.
+#[cycle(surface)]
+fn applied_surface(alloc: Global, levels_left: u32, left: Rest<'_>) -> Reading<'_, SurfaceTerm>
+    ensures ok { IfOk result
+        (IsReadAs surface_tree (only_applied (surface_with (surface_in_brackets levels_left))) left.entry) }
+    ensures wrong { IfErr result
+        (IsUnread (only_applied (surface_with (surface_in_brackets levels_left))) left.entry) }
+{
+    let (surface, rest) = surface_with(alloc, levels_left, left)?;
+    if !has_arguments(&surface) {
+        return Err(LineError::Form);
+    }
+    Ok((surface, rest))
+}
+
+/// A surface term with arguments in brackets, where so many levels are left within them.
+#[cycle(surface)]
+fn bracketed(alloc: Global, levels_left: u32, left: Rest<'_>) -> Reading<'_, SurfaceTerm>
+    ensures ok { IfOk result
+        (IsReadAs surface_tree (bracketed (surface_in_brackets levels_left)) left.entry) }
+    ensures wrong { IfErr result (IsUnread (bracketed (surface_in_brackets levels_left)) left.entry) }
+{
+    let inner = expect(left, b"(")?;
+    let (surface, rest) = applied_surface(alloc, levels_left, inner)?;
+    let rest = expect(rest, b")")?;
+    Ok((surface, rest))
+}
+
 /// A surface term with arguments in brackets, where so many levels of brackets are left.
 #[cycle(surface)]
+#[tactic(auto, using(crate::proofs::BracketLevels::no_level))]
 fn surface_in_brackets(alloc: Global, levels_left: u32, left: Rest<'_>) -> Reading<'_, SurfaceTerm>
     ensures ok { IfOk result (IsReadAs surface_tree (surface_in_brackets levels_left) left.entry) }
     ensures wrong { IfErr result (IsUnread (surface_in_brackets levels_left) left.entry) }
 {
-    let Some(below) = one_level_less(levels_left) else {
-        return Err(LineError::Form);
-    };
-    let inner = expect(left, b"(")?;
-    let (surface, rest) = surface_with(alloc, below, inner)?;
-    close(surface, rest)
+    match one_level_less(levels_left) {
+        Some(below) => bracketed(alloc, below, left),
+        None => Err(LineError::Form),
+    }
 }
 
 /// An argument.

@@ -13,7 +13,7 @@ use crate::rest::{LineError, Reading, Rest};
 use tsl_text::plain_number_in;
 
 /// What is left after so many bytes.
-pub fn skip(left: Rest<'_>, len: usize) -> Rest<'_>
+fn skip(left: Rest<'_>, len: usize) -> Rest<'_>
     requires { len ≤ length left.bytes.now }
     ensures { left_place result ≡ skipped len (left_place left.entry) }
 {

@@ -1,22 +1,20 @@
 -- Internal: which line may stand after those that were read, as a function that computes.
-use Rattle.std.specs.Prelude.{◌≡◌, ℕ, ◌+◌, ◌-◌, ◌≤◌, nat_lt, Bool, true, false, not, ◌&&◌, ◌==◌, List, [], ◌∷◌, ◌++◌, length, map, take}
-use Rattle.std.specs.Prelude.{drop, Option}
-use Rattle.std.specs.Prelude.{Some, None, is_none, option_map, option_and_then, if◌then◌else◌}
-use Rattle.std.specs.List.{list_all, prefix_len, AllByRecursion}
-use Rattle.tsl_text.specs.Lines.{is_line_byte}
+use Rattle.std.specs.Prelude.{◌≡◌, ℕ, ◌+◌, ◌-◌, ◌≤◌, Bool, true, false, not, ◌&&◌, ◌==◌, List, [], ◌∷◌, ◌++◌, length, map, take, drop}
+use Rattle.std.specs.Prelude.{Option, Some, None, is_none, option_and_then, if◌then◌else◌}
+use Rattle.std.specs.List.{list_all, AllByRecursion}
 use Rattle.tsl_terms.specs.Name.{number_of, Name as NameEntry}
 use Rattle.program_listing.specs.declared.rest.LineError.{LineError}
 use Rattle.program_listing.specs.declared.rest.LineError.TheVariants.{Form, NoMemory}
 use Rattle.program_listing.specs.declared.listing.Name.{Name}
-use Rattle.program_listing.specs.declared.listing.ListingError.{ListingError}
-use Rattle.program_listing.specs.declared.listing.ListingError.TheVariants.{Form as FormAt, NoMemory as Exhausted}
 use Rattle.program_listing.specs.declared.listing_reader.Begun.{Begun}
+use Rattle.program_listing.specs.declared.listing_reader.ListingReader.{ListingReader}
 use Rattle.program_listing.specs.declared.listing_reader.Stage.{Stage}
 use Rattle.program_listing.specs.declared.listing_reader.Stage.TheVariants.{Fresh, Going, Done}
 use Rattle.tsl_terms.specs.declared.names.NameKind.TheVariants.{Signal}
 use Rattle.program_listing.specs.ListingTree.{ListingTree, listing_tree, empty_listing}
-use Rattle.program_listing.specs.LineText.{Place, LineTree, head_line, input, cell, output, window, node, state, end_line}
-use Rattle.program_listing.specs.internal.LineReading.{skipped, read_line}
+use Rattle.program_listing.specs.LineText.{Place, LineTree, head_line, input, cell, output, window, node, state, end_line, node_lines}
+use Rattle.program_listing.specs.LineText.{state_lines}
+use Rattle.program_listing.specs.internal.LineReading.{read_line}
 
 -- what the lines so far say: there is none, these are the lines after the head, or they end with the last line
 pub data Progress : Type 0 where
@@ -81,6 +79,31 @@ abbrev pub add_all : List LineTree → Progress → Option Progress
 add_all [] p = Some p
 add_all (line ∷ lines) p = option_and_then (add_all lines) (add p line)
 
+-- the lines of a listing's sections, each with those after it and then these
+abbrev pub from_states : ListingTree → List LineTree → List LineTree
+from_states l tail = state_lines 0 l.states ++ tail
+
+abbrev pub from_nodes : ListingTree → List LineTree → List LineTree
+from_nodes l tail = node_lines 0 l.nodes ++ from_states l tail
+
+abbrev pub from_windows : ListingTree → List LineTree → List LineTree
+from_windows l tail = map window l.windows ++ from_nodes l tail
+
+abbrev pub from_outputs : ListingTree → List LineTree → List LineTree
+from_outputs l tail = map output l.outputs ++ from_windows l tail
+
+abbrev pub from_cells : ListingTree → List LineTree → List LineTree
+from_cells l tail = map cell l.cells ++ from_outputs l tail
+
+-- the lines of what was added, and then these
+abbrev pub lines_with : ListingTree → List LineTree → List LineTree
+lines_with l tail = head_line ∷ (map input l.inputs ++ from_cells l tail)
+
+abbrev pub lines_so_far : Progress → List LineTree
+lines_so_far fresh = []
+lines_so_far (going l) = lines_with l []
+lines_so_far (done l) = lines_with l (end_line ∷ [])
+
 -- the listing so far
 abbrev pub listing_of : Progress → ListingTree
 listing_of fresh = empty_listing
@@ -124,16 +147,17 @@ entries_in p line = map (entry_in p) (declares line)
 abbrev pub are_new : List NameEntry → List NameEntry → Bool
 are_new names later = list_all (λ n. is_none (number_of names n.text)) later
 
--- the line at this place, where it may stand next and declares no name again
-abbrev pub checked : ListingState → Place → LineTree → Option Progress
-checked s p line = if are_new s.names (entries_in p line) then add s.progress line else None
-
 abbrev pub state_after : ListingState → Place → LineTree → Progress → ListingState
 state_after s p line progress =
     record { at = p.at + (length p.bytes + 1); names = s.names ++ entries_in p line; progress = progress }
 
+-- the state after a line, where it declares no name again
+abbrev pub if_new : ListingState → Place → LineTree → Progress → Option ListingState
+if_new s p line progress = if are_new s.names (entries_in p line) then Some (state_after s p line progress) else None
+
+-- the line at this place, where it may stand next
 abbrev pub with_line : ListingState → Place → LineTree → Option ListingState
-with_line s p line = option_map (state_after s p line) (checked s p line)
+with_line s p line = option_and_then (if_new s p line) (add s.progress line)
 
 abbrev pub step_at : ListingState → Place → Option ListingState
 step_at s p = option_and_then (with_line s p) (read_line p)
@@ -141,22 +165,6 @@ step_at s p = option_and_then (with_line s p) (read_line p)
 -- what the lines say with one more
 abbrev pub step : ListingState → List ℕ → Option ListingState
 step s bytes = step_at s (record { at = s.at; bytes = bytes })
-
--- the first line that is left, without its line feed, and what is left after it
-abbrev pub cut_at : ℕ → Place → Option (Place × Place)
-cut_at len p =
-    if nat_lt len (length p.bytes) then Some (record { at = p.at; bytes = take len p.bytes }, skipped (len + 1) p) else None
-
-abbrev pub cut : Place → Option (Place × Place)
-cut p = cut_at (prefix_len is_line_byte p.bytes) p
-
-abbrev pub after_cut : ListingState → Option (Place × Place) → Option ListingState
-after_cut s None = None
-after_cut s (Some (line, later)) = step_at s line
-
--- what the lines say with the one that is left first
-abbrev pub next_line : ListingState → Place → Option ListingState
-next_line s p = after_cut s (cut p)
 
 -- what the code has read, where this is left
 abbrev pub stage_progress : Stage → ListingTree → Progress
@@ -167,8 +175,8 @@ stage_progress Done l = done l
 abbrev pub progress_of : Begun → Progress
 progress_of begun = stage_progress begun.stage (listing_tree begun.listing)
 
-abbrev pub state_of : ℕ → Begun → List NameEntry → ListingState
-state_of at begun names = record { at = at; names = names; progress = progress_of begun }
+abbrev pub reader_state : ListingReader → ListingState
+reader_state r = record { at = r.at; names = r.names; progress = progress_of r.begun }
 
 -- a name lies in the line at this place
 abbrev pub LiesIn : Place → Name → Type 0
@@ -181,8 +189,3 @@ DeclaresIn p line = AllByRecursion (LiesIn p) (declares line)
 abbrev pub IsRepeated : Bool → LineError → Type 0
 IsRepeated new Form = new ≡ false
 IsRepeated new NoMemory = Unit {0}
-
--- the error of a line that is at fault
-abbrev pub error_at : LineError → ℕ → ListingError
-error_at Form line = FormAt line
-error_at NoMemory line = Exhausted

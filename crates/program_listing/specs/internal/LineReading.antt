@@ -6,6 +6,7 @@ use Rattle.std.specs.Prelude.{
   zero,
   suc,
   ◌+◌,
+  ◌<◌,
   Bool,
   true,
   false,
@@ -24,6 +25,7 @@ use Rattle.std.specs.Prelude.{
   Some,
   None,
   option_map,
+  option_and_then,
   if◌then◌else◌,
 }
 use Rattle.std.specs.Option.{is_some}
@@ -88,54 +90,52 @@ abbrev pub past : List ℕ → Place → Option Place
 past w p = option_map (λ rest. record { at = p.at + length w; bytes = rest }) (strip w p.bytes)
 
 module _ {A B : Type 0} where
-  abbrev pub with_second : A → Option (B × Place) → Option ((A × B) × Place)
-  with_second a None = None
-  with_second a (Some (b, p)) = Some ((a, b), p)
+  -- another value of what is read
+  abbrev pub mapped : (A → B) → Option (A × Place) → Option (B × Place)
+  mapped make read = option_map (λ r. (make r.0, r.1)) read
 
-  abbrev pub and_second : Option (A × Place) → LineReader B → Option ((A × B) × Place)
-  and_second None second = None
-  and_second (Some (a, p)) second = with_second a (second p)
+  abbrev pub and_next : LineReader B → A × Place → Option ((A × B) × Place)
+  and_next second r = option_map (λ t. ((r.0, t.0), t.1)) (second r.1)
 
   -- one after another
   abbrev pub pair : LineReader A → LineReader B → LineReader (A × B)
-  pair first second p = and_second (first p) second
-
-  -- another value of what is read
-  abbrev pub mapped : (A → B) → Option (A × Place) → Option (B × Place)
-  mapped make None = None
-  mapped make (Some (a, p)) = Some (make a, p)
+  pair first second p = option_and_then (and_next second) (first p)
 
 module _ {A : Type 0} where
-  -- what is read from the place, if there is one
-  abbrev pub from : Option Place → LineReader A → Option (A × Place)
-  from None reader = None
-  from (Some p) reader = reader p
+  -- each value that is read takes a byte at least
+  abbrev pub Shrinks : LineReader A → Type 0
+  Shrinks reader = (p : Place) (a : A) (q : Place) → reader p ≡ Some (a, q) → length q.bytes < length p.bytes
 
   -- after these bytes
   abbrev pub prefixed : List ℕ → LineReader A → LineReader A
-  prefixed w reader p = from (past w p) reader
+  prefixed w reader p = option_and_then reader (past w p)
 
-  abbrev pub keep_before : A → Option Place → Option (A × Place)
-  keep_before a None = None
-  keep_before a (Some p) = Some (a, p)
-
-  abbrev pub and_after : List ℕ → Option (A × Place) → Option (A × Place)
-  and_after w None = None
-  and_after w (Some (a, p)) = keep_before a (past w p)
+  abbrev pub and_past : List ℕ → A × Place → Option (A × Place)
+  and_past w r = option_map (λ q. (r.0, q)) (past w r.1)
 
   -- with these bytes after it
   abbrev pub closed : List ℕ → LineReader A → LineReader A
-  closed w reader p = and_after w (reader p)
+  closed w reader p = option_and_then (and_past w) (reader p)
+
+  -- nothing, for any value
+  abbrev pub nothing : A → LineReader A
+  nothing a p = Some (a, p)
+
+  -- what is read after these bytes where they stand there, and otherwise this
+  abbrev pub either : Option Place → LineReader A → Option (A × Place) → Option (A × Place)
+  either None reader other = other
+  either (Some p) reader other = reader p
 
   abbrev pub with_first : A → Option (List A × Place) → Option (List A × Place)
-  with_first a None = None
-  with_first a (Some (as', p)) = Some (a ∷ as', p)
+  with_first a read = option_map (λ r. (a ∷ r.0, r.1)) read
+
+  abbrev pub and_more : LineReader (List A) → A × Place → Option (List A × Place)
+  and_more more r = with_first r.0 (more r.1)
 
   -- what a step gives and what is read after it, or nothing where there is no step
   abbrev pub go_on : Place → Option (Option (A × Place)) → LineReader (List A) → Option (List A × Place)
   go_on p None more = Some ([], p)
-  go_on p (Some None) more = None
-  go_on p (Some (Some (a, q))) more = with_first a (more q)
+  go_on p (Some read) more = option_and_then (and_more more) read
 
   -- A step, where its test holds of the bytes.
   abbrev pub step_if : (List ℕ → Bool) → LineReader A → Place → Option (Option (A × Place))
@@ -156,8 +156,7 @@ module _ {A : Type 0} where
 
   -- what is read, where nothing is left after it
   abbrev pub at_end : Option (A × Place) → Option A
-  at_end None = None
-  at_end (Some (a, p)) = value_at_end a p.bytes
+  at_end read = option_and_then (λ r. value_at_end r.0 r.1.bytes) read
 
 -- ---- names and numbers
 
@@ -211,18 +210,28 @@ abbrev pub argument_follows : List ℕ → Bool
 argument_follows [] = false
 argument_follows (byte ∷ bytes) = is_space byte && argument_begins bytes
 
--- a name, or a constant where `()` follows it
-abbrev pub constant_or : Name → Option Place → Option (SurfaceTermTree × Place) → Option (SurfaceTermTree × Place)
-constant_or name (Some p) other = Some (applied name no_surfaces, p)
-constant_or name None other = other
+-- what follows a name: nothing, or what is applied, `()` where these are no arguments
+abbrev pub tail_of : List SurfaceTermTree → Option SurfaceTermTrees
+tail_of [] = None
+tail_of (p ∷ ps) = Some (surfaces_of (p ∷ ps))
 
-abbrev pub short_after : Option (Name × Place) → Option (SurfaceTermTree × Place)
-short_after None = None
-short_after (Some (name, p)) = constant_or name (past (codes "()") p) (Some (bare name, p))
+abbrev pub with_tail : Name × Option SurfaceTermTrees → SurfaceTermTree
+with_tail (name, None) = bare name
+with_tail (name, Some ps) = applied name ps
+
+abbrev pub surface_of : Name → List SurfaceTermTree → SurfaceTermTree
+surface_of name ps = with_tail (name, tail_of ps)
+
+-- a name and what follows it, where this reader reads the arguments
+abbrev pub tail : LineReader (List SurfaceTermTree) → LineReader (Option SurfaceTermTrees)
+tail arguments p = either (past (codes "()") p) (nothing (Some no_surfaces)) (mapped tail_of (arguments p))
+
+abbrev pub surface_by : LineReader (List SurfaceTermTree) → LineReader SurfaceTermTree
+surface_by arguments p = mapped with_tail (pair first_name (tail arguments) p)
 
 -- an argument without brackets
 abbrev pub short : LineReader SurfaceTermTree
-short p = short_after (first_name p)
+short = surface_by (nothing [])
 
 -- an argument, where this reader reads those in brackets
 abbrev pub argument_surface : LineReader SurfaceTermTree → LineReader SurfaceTermTree
@@ -234,42 +243,34 @@ spaced_argument surface_in_brackets = prefixed (codes " ") (argument_surface sur
 abbrev pub arguments : LineReader SurfaceTermTree → LineReader (List SurfaceTermTree)
 arguments surface_in_brackets = repeat argument_follows (spaced_argument surface_in_brackets)
 
-abbrev pub surface_of : Name → List SurfaceTermTree → SurfaceTermTree
-surface_of name [] = bare name
-surface_of name (p ∷ ps) = applied name (surfaces_of (p ∷ ps))
-
-abbrev pub surface_after : LineReader SurfaceTermTree → Option (Name × Place) → Option (SurfaceTermTree × Place)
-surface_after surface_in_brackets None = None
-surface_after surface_in_brackets (Some (name, p)) =
-    constant_or name (past (codes "()") p) (mapped (surface_of name) (arguments surface_in_brackets p))
-
 -- a term or a test
 abbrev pub surface_with : LineReader SurfaceTermTree → LineReader SurfaceTermTree
-surface_with surface_in_brackets p = surface_after surface_in_brackets (first_name p)
+surface_with surface_in_brackets = surface_by (arguments surface_in_brackets)
 
 -- a surface term that has arguments
 abbrev pub has_arguments : SurfaceTermTree → Bool
 has_arguments (applied name (more_surfaces p ps)) = true
 has_arguments _ = false
 
-abbrev pub only_applied : Option (SurfaceTermTree × Place) → Option (SurfaceTermTree × Place)
-only_applied None = None
-only_applied (Some (surface, p)) = if has_arguments surface then keep_before surface (past (codes ")") p) else None
+abbrev pub if_applied : SurfaceTermTree × Place → Option (SurfaceTermTree × Place)
+if_applied r = if has_arguments r.0 then Some r else None
 
--- a surface term with arguments in brackets, where so many levels of brackets are left
+abbrev pub only_applied : LineReader SurfaceTermTree → LineReader SurfaceTermTree
+only_applied reader p = option_and_then if_applied (reader p)
+
+-- a surface term with arguments in brackets, where this reader reads those in brackets within
+abbrev pub bracketed : LineReader SurfaceTermTree → LineReader SurfaceTermTree
+bracketed surface_in_brackets = closed (codes ")") (prefixed (codes "(") (only_applied (surface_with surface_in_brackets)))
+
+-- where so many levels of brackets are left
 unfoldable pub surface_in_brackets : ℕ → LineReader SurfaceTermTree
 surface_in_brackets zero p = None
-surface_in_brackets (suc levels_left) p = only_applied (from (past (codes "(") p) (surface_with (surface_in_brackets levels_left)))
+surface_in_brackets (suc levels_left) p = bracketed (surface_in_brackets levels_left) p
 
 abbrev pub surface : LineReader SurfaceTermTree
 surface = surface_with (surface_in_brackets deepest)
 
 -- ---- lines
-
--- what is read from the place, if there is one, and otherwise this
-abbrev pub either : {V : Type 0} → Option Place → (Place → Option V) → Option V → Option V
-either (Some p) reader other = reader p
-either None reader other = other
 
 abbrev pub line_tree : Line → LineTree
 line_tree Head = head_line
@@ -324,7 +325,7 @@ equated = prefixed (codes " when ") placed
 
 -- what stands before a window's right test: `true`, or the left test and its step
 abbrev pub left_side : LineReader (Option PlacedLine)
-left_side p = either (past (codes "true is ") p) (λ q. Some (None, q)) (mapped Some (closed (codes " is ") placed p))
+left_side p = either (past (codes "true is ") p) (nothing None) (mapped Some (closed (codes " is ") placed p))
 
 abbrev pub as_window : Option PlacedLine × (PlacedLine × (List ListedLine × List PlacedLine)) → WindowLine
 as_window w = record { left = w.0; right = w.1.0; updates = w.1.1.0; equalities = w.1.1.1 }
@@ -337,19 +338,31 @@ abbrev pub as_branch : SurfaceTermTree × (ℕ × ℕ) → NodeLine
 as_branch b = branch_line b.0 b.1.0 b.1.1
 
 -- a node that tests, after its ` if `
+abbrev pub branch_parts : LineReader (SurfaceTermTree × (ℕ × ℕ))
+branch_parts = pair surface (pair (prefixed (codes " then ") first_number) (prefixed (codes " else ") first_number))
+
 abbrev pub branch_rest : LineReader NodeLine
-branch_rest p = mapped as_branch (pair surface (pair (prefixed (codes " then ") first_number) (prefixed (codes " else ") first_number)) p)
+branch_rest p = mapped as_branch (branch_parts p)
 
 abbrev pub as_assignment : List UpdateLine × ℕ → NodeLine
 as_assignment a = assignment_line a.0 a.1
 
 -- a node that assigns, after its ` set`
+abbrev pub assignment_parts : LineReader (List UpdateLine × ℕ)
+assignment_parts = pair (repeat update_follows set_update) (prefixed (codes " go ") first_number)
+
 abbrev pub assignment_rest : LineReader NodeLine
-assignment_rest p = mapped as_assignment (pair (repeat update_follows set_update) (prefixed (codes " go ") first_number) p)
+assignment_rest p = mapped as_assignment (assignment_parts p)
 
 -- a node after its number
 abbrev pub node_rest : LineReader NodeLine
-node_rest p = either (past (codes " if ") p) branch_rest (prefixed (codes " set") assignment_rest p)
+node_rest p = either (past (codes " if ") p) branch_rest (either (past (codes " set") p) assignment_rest None)
+
+abbrev pub as_node : ℕ × NodeLine → LineTree
+as_node n = node n.0 n.1
+
+abbrev pub as_state : ℕ × ℕ → LineTree
+as_state n = state n.0 n.1
 
 -- a node's number and what follows it, and a state's
 abbrev pub numbered_node : LineReader (ℕ × NodeLine)
@@ -358,14 +371,18 @@ numbered_node = pair first_number node_rest
 abbrev pub numbered_state : LineReader (ℕ × ℕ)
 numbered_state = pair first_number (prefixed (codes " at ") first_number)
 
--- the line that the bytes are, without their line feed
+-- a line without its line feed
+abbrev pub line : LineReader LineTree
+line p =
+    either (past (codes "input ") p) (λ q. mapped input (first_name q))
+    (either (past (codes "cell ") p) (λ q. mapped cell (first_name q))
+    (either (past (codes "output ") p) (λ q. mapped output (first_name q))
+    (either (past (codes "window ") p) (λ q. mapped window (window_rest q))
+    (either (past (codes "node ") p) (λ q. mapped as_node (numbered_node q))
+    (either (past (codes "state ") p) (λ q. mapped as_state (numbered_state q))
+    (either (past (codes "tslprogram 1") p) (nothing head_line)
+    (either (past (codes "end") p) (nothing end_line) None)))))))
+
+-- the line that the bytes are
 abbrev pub read_line : Place → Option LineTree
-read_line p =
-    either (past (codes "input ") p) (λ q. option_map input (at_end (first_name q)))
-    (either (past (codes "cell ") p) (λ q. option_map cell (at_end (first_name q)))
-    (either (past (codes "output ") p) (λ q. option_map output (at_end (first_name q)))
-    (either (past (codes "window ") p) (λ q. option_map window (at_end (window_rest q)))
-    (either (past (codes "node ") p) (λ q. option_map (λ n. node n.0 n.1) (at_end (numbered_node q)))
-    (either (past (codes "state ") p) (λ q. option_map (λ s. state s.0 s.1) (at_end (numbered_state q)))
-    (either (past (codes "tslprogram 1") p) (λ q. value_at_end head_line q.bytes)
-    (either (past (codes "end") p) (λ q. value_at_end end_line q.bytes) None)))))))
+read_line p = at_end (line p)

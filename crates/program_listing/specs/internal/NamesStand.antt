@@ -5,9 +5,8 @@ use Rattle.std.specs.List.{list_all}
 use Rattle.tsl_text.specs.Names.{is_usable}
 use Rattle.tsl_terms.specs.WellFormed.{deepest}
 use Rattle.program_listing.specs.declared.listing.Name.{Name}
-use Rattle.program_listing.specs.ListingTree.{SurfaceTermTree, bare, applied, SurfaceTermTrees, no_surfaces, more_surfaces, UpdateLine, ListedLine}
-use Rattle.program_listing.specs.ListingTree.{PlacedLine, WindowLine, NodeLine}
-use Rattle.program_listing.specs.ListingTree.{branch_line, assignment_line, ListingTree}
+use Rattle.program_listing.specs.ListingTree.{SurfaceTermTree, bare, applied, SurfaceTermTrees, no_surfaces, more_surfaces, UpdateLine}
+use Rattle.program_listing.specs.ListingTree.{ListedLine, PlacedLine, WindowLine, NodeLine, branch_line, assignment_line, ListingTree}
 use Rattle.program_listing.specs.LineText.{surface_brackets}
 use Rattle.program_listing.specs.Listing.{name_bytes, declared}
 

@@ -6,6 +6,12 @@ use Rattle.program_listing.proofs.surfaces.+surface.Given as goal
 
 -- each function calls those after it in this list at its number of levels, and the last one calls the first at a smaller one
 
+abbrev pub decreases-bracketed : goal.decreases-bracketed
+decreases-bracketed l = l.levels_left * 8 + 6
+
+abbrev pub decreases-applied_surface : goal.decreases-applied_surface
+decreases-applied_surface l = l.levels_left * 8 + 5
+
 abbrev pub decreases-surface_with : goal.decreases-surface_with
 decreases-surface_with l = l.levels_left * 8 + 4
 
