@@ -18,8 +18,8 @@ use Rattle.spec_syntax.specs.Reading.{formula_from, formula_after, formula_with,
 use Rattle.spec_syntax.specs.Reading.{formulas, section_made, items, side, section_at, section, sections}
 use Rattle.spec_syntax.specs.Grammar.{AreSections, IsAtom, test, one_argument, constant_argument}
 use Rattle.spec_syntax.specs.Texts.{NoTextBegins}
-use Rattle.spec_syntax.proofs.ExactSections.{sections_derive}
-use Rattle.spec_syntax.proofs.Faults.{form_stops_all, deep_stops}
+use Rattle.spec_syntax.proofs.ExactSections.{sections_exact, sections_derive}
+use Rattle.spec_syntax.proofs.FirstFaults.{form_stops, deep_stops}
 
 -- ---- terminals
 
@@ -174,14 +174,14 @@ an_atom = test (codes "p") (one_argument (constant_argument (codes "a")))
 arrows_derive : AreSections 2 (guaranteed (a ∷ mark Arrow ∷ b ∷ mark Arrow ∷ c ∷ []))
     (section_made GuaranteeFirst (between Implication (bare (codes "a")) (between Implication (bare (codes "b")) (bare
     (codes "c"))) ∷ []) ∷ [])
-arrows_derive = sections_derive 2 _ _ [] arrows_are_right
+arrows_derive = (sections_derive 2 _ _ [] arrows_are_right).1
 
 -- and `guarantee { a U b U c }` with no number of levels, nor any text that begins with `guarantee { a U b U`
 no_chain_derives : (levels_left : ℕ) → NoTextBegins levels_left (word Guarantee ∷ mark OpenBrace ∷ a ∷ word U ∷ b ∷ word U ∷ [])
-no_chain_derives levels_left = form_stops_all 5 _ 3 no_chain_of_until (word Guarantee ∷ mark OpenBrace ∷ a ∷ word U ∷ b ∷ []) (word U)
+no_chain_derives levels_left = form_stops (sections_exact 5) _ 3 no_chain_of_until (word Guarantee ∷ mark OpenBrace ∷ a ∷ word U ∷ b ∷ []) (word U)
     (c ∷ mark CloseBrace ∷ []) refl refl levels_left
 
 -- `guarantee { ! X a }` derives with no text of one level
 no_third_level_derives : NoTextBegins 1 (word Guarantee ∷ mark OpenBrace ∷ mark Not ∷ word X ∷ [])
-no_third_level_derives = deep_stops 1 _ 3 a_third_level_is_deep (word Guarantee ∷ mark OpenBrace ∷ mark Not ∷ []) (word X)
+no_third_level_derives = deep_stops (sections_exact 1) _ 3 a_third_level_is_deep (word Guarantee ∷ mark OpenBrace ∷ mark Not ∷ []) (word X)
     (a ∷ mark CloseBrace ∷ []) refl refl

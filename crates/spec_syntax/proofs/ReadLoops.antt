@@ -1,8 +1,8 @@
 -- The loops of reading: what is read so far, and then what is read of the terminals that are left.
 use Rattle.std.proofs.Common.{◌≡◌, ℕ, ◌<◌, List, [], ◌∷◌, ◌++◌, length, map, refl, ap, sym, ◌∙◌, arith}
 use Rattle.std.proofs.lemmas.List.{map-append, length-map}
-use Rattle.std.specs.Prelude.{true, false, Option, Some, None, Ok}
-use Rattle.tsl_text.specs.declared.TokenKind.TheVariants.{CloseBrace, Semicolon}
+use Rattle.std.specs.Prelude.{true, false, Option, Some, None, is_some, Ok}
+use Rattle.tsl_text.specs.declared.TokenKind.TheVariants.{OpenRound, CloseBrace, Semicolon}
 use Rattle.spec_syntax.specs.declared.trees.ReadFormula.{ReadFormula}
 use Rattle.token_readers.specs.Readers.{form, deep, Answer, iterate, push, push_read, map_read, found_or_wrong}
 use Rattle.token_readers.proofs.Iterates.{Shrinks, step_shrinks, no_step, next_step, wrong_step}
@@ -12,14 +12,14 @@ use Rattle.tsl_terms.specs.declared.operator.ManyOperator.TheVariants.{Conjuncti
 use Rattle.spec_syntax.specs.declared.fault.ReadFault.{ReadFault}
 use Rattle.spec_syntax.specs.declared.terminal.Terminal.{Terminal as LentTerminal}
 use Rattle.spec_syntax.specs.declared.fault.ReadFault.TheVariants.{Form, Deep, NoMemory}
-use Rattle.spec_syntax.specs.Syntax.{Terminal, mark, FormulaSyntax}
+use Rattle.spec_syntax.specs.Syntax.{Terminal, free, mark, FormulaSyntax}
 use Rattle.spec_syntax.specs.SyntaxView.{terminal_view, terminals_view, formula_syntax, HasSyntaxFault}
 use Rattle.spec_syntax.specs.internal.InnerView.{HasFaultOfMember}
-use Rattle.spec_syntax.specs.Reading.{lower, Arguments, argument, argument_wanted, fresh, goes_on, arguments_of, further, operand_with}
+use Rattle.spec_syntax.specs.Reading.{Level, lower, Arguments, empty, term_last, argument, argument_wanted, fresh, goes_on, arguments_of, further, operand_with}
 use Rattle.spec_syntax.specs.Reading.{open_items, item_last}
 use Rattle.spec_syntax.specs.Reading.{items_of, item, begins_item, formula_with, formulas}
 use Rattle.spec_syntax.proofs.ReadLemmas.{map_fault}
-use Rattle.spec_syntax.proofs.ExactTerms.{stepping as argument_stepping, no_step as no_argument, some_step as some_argument, at_end}
+use Rattle.spec_syntax.proofs.ExactTerms.{stepping as argument_stepping}
 use Rattle.spec_syntax.proofs.ExactPrefixes.{terms_below, prefix_exact}
 use Rattle.spec_syntax.proofs.ExactFormulas.{below_exact, and_exact, further_member, and_facts, or_facts}
 use Rattle.spec_syntax.proofs.ExactSections.{item_shrinks}
@@ -85,14 +85,26 @@ further_shrinks Disjunction levels_left = step_shrinks (list_stepping (further_m
 arguments_shrink : (levels_left : ℕ) → Shrinks (argument (lower levels_left))
 arguments_shrink levels_left = step_shrinks (argument_stepping levels_left (lower levels_left) (terms_below levels_left (lower levels_left) (below_exact levels_left)))
 
-argument_is : (levels_left : ℕ) (s : Arguments) (xs : List Terminal) → goes_on s xs ≡ true →
-    argument (lower levels_left) s xs ≡ Some (found_or_wrong (argument (lower levels_left) s xs) xs)
-argument_is levels_left s [] h = cc
-argument_is levels_left s (x ∷ rest) h = some_argument (lower levels_left) s x rest h
+argument_found : (low : Option Level) (s : Arguments) (xs : List Terminal) → is_some (argument low s xs) ≡ goes_on s xs
+unfolding argument
+argument_found low empty [] = refl
+argument_found low empty (x ∷ xs) = refl
+argument_found low (term_last ts) (mark OpenRound ∷ xs) = refl
+argument_found low s (free x ∷ xs) = refl
+argument_found low s (mark OpenRound ∷ xs) = refl
+argument_found low s _ = refl
 
-no_argument_is : (levels_left : ℕ) (s : Arguments) (xs : List Terminal) → goes_on s xs ≡ false → argument (lower levels_left) s xs ≡ None
-no_argument_is levels_left s [] h = at_end (lower levels_left) s
-no_argument_is levels_left s (x ∷ rest) h = no_argument (lower levels_left) s x rest h
+some_found : {V : Type 0} (found : Option (Answer Terminal V)) (xs : List Terminal) → is_some found ≡ true → found ≡ Some (found_or_wrong found xs)
+some_found None xs h = cc
+some_found (Some answer) xs h = refl
+
+none_found : {V : Type 0} (found : Option (Answer Terminal V)) → is_some found ≡ false → found ≡ None
+none_found None h = refl
+none_found (Some answer) h = cc
+
+argument_is : (levels_left : ℕ) (s : Arguments) (xs : List Terminal) → goes_on s xs ≡ true →
+    argument (lower levels_left) s xs ≡ Some (argument_wanted (lower levels_left) s xs)
+argument_is levels_left s xs h = some_found _ xs (argument_found (lower levels_left) s xs ∙ h)
 
 pub arguments_more : (levels_left : ℕ) (s t : Arguments) (xs rest : List Terminal) → goes_on s xs ≡ true →
     argument_wanted (lower levels_left) s xs ≡ Ok (t, rest) →
@@ -107,7 +119,7 @@ arguments_shorten levels_left s t xs rest h k =
 
 pub arguments_end : (levels_left : ℕ) (s : Arguments) (xs : List Terminal) → goes_on s xs ≡ false →
     iterate (argument (lower levels_left)) s xs ≡ Ok (s, xs)
-arguments_end levels_left s xs h = no_step (arguments_shrink levels_left) s xs (no_argument_is levels_left s xs h)
+arguments_end levels_left s xs h = no_step (arguments_shrink levels_left) s xs (none_found _ (argument_found (lower levels_left) s xs ∙ h))
 
 found_fault : {V : Type 0} (found : Option (Answer Terminal V)) (xs : List Terminal) (fault : ReadFault) →
     found ≡ Some (found_or_wrong found xs) →

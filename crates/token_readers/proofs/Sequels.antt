@@ -4,12 +4,8 @@ use Rattle.std.specs.Prelude.{Option}
 use Rattle.token_readers.specs.Readers.{Reader, and_then, map_read}
 use Rattle.token_readers.specs.Exact.{Grammar, Before, Begins, Exact}
 use Rattle.token_readers.proofs.Runs.{exact_map}
-use Rattle.token_readers.proofs.Then.{Any, IsThen, exact_then}
+use Rattle.token_readers.proofs.Then.{Any, before_any, IsThen, exact_then}
 use Rattle.token_readers.proofs.Taken.{IsOne, IsEnd, Never}
-
-before_any : {T : Type 0} (xs : List T) → Before Any xs
-before_any [] = tt
-before_any (x ∷ xs) = tt
 
 module _ {T V W : Type 0} where
   -- another value of a form
