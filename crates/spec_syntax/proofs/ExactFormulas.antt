@@ -28,18 +28,8 @@ use Rattle.spec_syntax.specs.Reading.{is_arrow, operator_of, arrow_from, arrow_a
 use Rattle.spec_syntax.specs.Reading.{formula_after, formula_with, above, lower}
 use Rattle.spec_syntax.proofs.MoreLevels.{iff_more, imp_more, and_more}
 use Rattle.spec_syntax.proofs.ExactTerms.{tie, Below_tie, a, term_exact}
-use Rattle.spec_syntax.proofs.ExactPrefixes.{
-  IsRight,
-  IsLeft,
-  arrow_tie,
-  LevelExact,
-  terms_below,
-  lift_prefixes,
-  a_prefix,
-  an_and,
-  a_right,
-  prefix_exact,
-}
+use Rattle.spec_syntax.proofs.ExactPrefixes.{IsRight, IsLeft, arrow_tie, LevelExact, terms_below, lift_prefixes, a_prefix, an_and}
+use Rattle.spec_syntax.proofs.ExactPrefixes.{a_right, prefix_exact}
 
 -- ---- what may follow a form
 

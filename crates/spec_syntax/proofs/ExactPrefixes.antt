@@ -22,21 +22,8 @@ use Rattle.spec_syntax.specs.Grammar.{brackets_atom, update, bare_name, no_argum
 use Rattle.spec_syntax.specs.Reading.{closes, is_close_square, Level, bracketed_formula, atom_named, term_with, update_with}
 use Rattle.spec_syntax.specs.Reading.{atom_with, after_name, prefix_from, prefix_with}
 use Rattle.spec_syntax.proofs.MoreLevels.{formula_more, prefix_more}
-use Rattle.spec_syntax.proofs.ExactTerms.{
-  tie,
-  Below_tie,
-  TermExact,
-  closer_mark,
-  tells,
-  closed_term,
-  a,
-  AreAfterName,
-  nothing,
-  no_arguments,
-  some_arguments,
-  after_name_exact,
-  term_exact,
-}
+use Rattle.spec_syntax.proofs.ExactTerms.{tie, Below_tie, TermExact, closer_mark, tells, closed_term, a, AreAfterName, nothing}
+use Rattle.spec_syntax.proofs.ExactTerms.{no_arguments, some_arguments, after_name_exact, term_exact}
 
 -- the forms on the right of an arrow and on its left, and how strongly it ties
 abbrev pub IsRight : ArrowKind → Grammar Terminal FormulaSyntax

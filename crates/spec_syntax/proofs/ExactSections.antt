@@ -21,26 +21,8 @@ use Rattle.spec_syntax.specs.declared.syntax.Closer.TheVariants.{Brace}
 use Rattle.spec_syntax.specs.Grammar.{IsFormula, AreItems, nothing, last_item, item as item_of, IsHead, assume, guarantee, initially_assume}
 use Rattle.spec_syntax.specs.Grammar.{initially_guarantee, always_assume, always_guarantee, IsSection, braces, AreSections, no_section}
 use Rattle.spec_syntax.specs.Grammar.{section as section_of}
-use Rattle.spec_syntax.specs.Reading.{
-  is_close_brace,
-  prefix_from,
-  prefix_with,
-  atom_with,
-  formula_with,
-  lower,
-  Items,
-  open_items,
-  item_last,
-  items_of,
-  item,
-  formulas,
-  section_made,
-  items,
-  side,
-  section_at,
-  section,
-  sections,
-}
+use Rattle.spec_syntax.specs.Reading.{is_close_brace, prefix_from, prefix_with, atom_with, formula_with, lower, Items, open_items}
+use Rattle.spec_syntax.specs.Reading.{item_last, items_of, item, formulas, section_made, items, side, section_at, section, sections}
 use Rattle.spec_syntax.proofs.MoreLevels.{formula_more, items_more, section_more}
 use Rattle.spec_syntax.proofs.ExactTerms.{tie, Below_tie, tells}
 use Rattle.spec_syntax.proofs.ExactFormulas.{formula_exact, below_exact}

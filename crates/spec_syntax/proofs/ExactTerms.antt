@@ -13,45 +13,13 @@ use Rattle.token_readers.proofs.Iterates.{Steps, stop, more, At, stays, goes, St
 use Rattle.token_readers.proofs.Lists.{AreAll, none, some}
 use Rattle.spec_syntax.specs.declared.syntax.Word.TheVariants.{U, W, R}
 use Rattle.spec_syntax.specs.Syntax.{Terminal, free, word, mark, TermSyntax, alone, applied, grouped_term, no_terms}
-use Rattle.spec_syntax.specs.Grammar.{
-  IsTerm,
-  signal,
-  constant,
-  application,
-  brackets,
-  AreArguments,
-  one_argument,
-  more_arguments,
-  IsArgument,
-  signal_argument,
-  constant_argument,
-  brackets_argument,
-  in_brackets,
-}
+use Rattle.spec_syntax.specs.Grammar.{IsTerm, signal, constant, application, brackets, AreArguments, one_argument, more_arguments}
+use Rattle.spec_syntax.specs.Grammar.{IsArgument, signal_argument, constant_argument, brackets_argument, in_brackets}
 use Rattle.spec_syntax.specs.declared.syntax.Closer.{Closer}
 use Rattle.spec_syntax.specs.declared.syntax.Closer.TheVariants.{Round, Square, Brace, Equals as EqualsAfter, Semicolon as SemicolonAfter}
-use Rattle.spec_syntax.specs.Reading.{
-  closes,
-  Level,
-  bracketed_term,
-  begins_term,
-  opened,
-  Arguments,
-  fresh,
-  empty,
-  name_last,
-  term_last,
-  complete,
-  with_name,
-  with_term,
-  with_brackets,
-  argument,
-  argument_wanted,
-  arguments_of,
-  after_name,
-  term_named,
-  term_with,
-}
+use Rattle.spec_syntax.specs.Reading.{closes, Level, bracketed_term, begins_term, opened, Arguments, fresh, empty, name_last, term_last}
+use Rattle.spec_syntax.specs.Reading.{complete, with_name, with_term, with_brackets, argument, argument_wanted, arguments_of, after_name}
+use Rattle.spec_syntax.specs.Reading.{term_named, term_with}
 use Rattle.spec_syntax.proofs.MoreLevels.{term_more}
 
 -- how strongly a terminal ties to the form before it: an argument most, and what ends a form not at all

@@ -1,56 +1,12 @@
 -- What derives with some levels left derives with one more.
 use Rattle.std.proofs.Common.{ℕ, suc, List}
 use Rattle.spec_syntax.specs.Syntax.{Terminal, TermSyntax, FormulaSyntax, SectionSyntax}
-use Rattle.spec_syntax.specs.Grammar.{
-  IsTerm,
-  signal,
-  constant,
-  application,
-  brackets,
-  AreArguments,
-  one_argument,
-  more_arguments,
-  IsArgument,
-  signal_argument,
-  constant_argument,
-  brackets_argument,
-  IsFormula,
-  temporal,
-  chain as chained,
-  IsIff,
-  no_iff,
-  iff,
-  IsImp,
-  no_imp,
-  imp,
-  IsOr,
-  disjunction,
-  AreDisjuncts,
-  no_disjunct,
-  more_disjuncts,
-  IsAnd,
-  conjunction,
-  AreConjuncts,
-  no_conjunct,
-  more_conjuncts,
-  IsPrefix,
-  prefix,
-  atom,
-  IsAtom,
-  true_atom,
-  false_atom,
-  brackets_atom,
-  update,
-  bare_name,
-  no_argument,
-  test,
-  AreItems,
-  nothing,
-  last_item,
-  item,
-  IsSection,
-  braces,
-}
+use Rattle.spec_syntax.specs.Grammar.{IsTerm, signal, constant, application, brackets, AreArguments, one_argument, more_arguments}
+use Rattle.spec_syntax.specs.Grammar.{IsArgument, signal_argument, constant_argument, brackets_argument, IsFormula, temporal}
+use Rattle.spec_syntax.specs.Grammar.{chain as chained, IsIff, no_iff, iff, IsImp, no_imp, imp, IsOr, disjunction, AreDisjuncts}
+use Rattle.spec_syntax.specs.Grammar.{no_disjunct, more_disjuncts, IsAnd, conjunction, AreConjuncts, no_conjunct, more_conjuncts}
+use Rattle.spec_syntax.specs.Grammar.{IsPrefix, prefix, atom, IsAtom, true_atom, false_atom, brackets_atom, update, bare_name}
+use Rattle.spec_syntax.specs.Grammar.{no_argument, test, AreItems, nothing, last_item, item, IsSection, braces}
 
 mutual
   pub term_more : {r : ℕ} {xs : List Terminal} {t : TermSyntax} → IsTerm r xs t → IsTerm (suc r) xs t

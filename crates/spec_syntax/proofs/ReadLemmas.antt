@@ -18,24 +18,8 @@ use Rattle.spec_syntax.specs.declared.syntax.Part.{Part}
 use Rattle.spec_syntax.specs.declared.formulas.Form.{Form as GrammarForm}
 use Rattle.spec_syntax.specs.declared.formulas.Form.TheVariants.{Prefix, Right, Formula}
 use Rattle.spec_syntax.specs.internal.Forms.{reader_of, form_with}
-use Rattle.spec_syntax.specs.Reading.{
-  is_close_brace,
-  bracketed_formula,
-  formulas,
-  items,
-  section_made,
-  Level,
-  is_close_round,
-  is_close_square,
-  lower,
-  above,
-  bracketed_term,
-  begins_term,
-  beyond,
-  opened,
-  term_with,
-  update_with,
-}
+use Rattle.spec_syntax.specs.Reading.{is_close_brace, bracketed_formula, formulas, items, section_made, Level, is_close_round}
+use Rattle.spec_syntax.specs.Reading.{is_close_square, lower, above, bracketed_term, begins_term, beyond, opened, term_with, update_with}
 
 pub no_level : (levels_left : ℕ) → levels_left ≡ 0 → lower levels_left ≡ None
 unfolding lower

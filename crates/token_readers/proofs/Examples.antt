@@ -1,20 +1,8 @@
 -- A small reader that takes all its laws from this crate: a name, and then numbers in square brackets.
 use Rattle.std.proofs.Common.{◌≡◌, ℕ, Bool, true, false, List, [], ◌∷◌, ◌++◌, length, refl, arith}
 use Rattle.std.specs.Prelude.{Option, Some, None, Ok, Err}
-use Rattle.token_readers.specs.Readers.{
-  form,
-  Answer,
-  Reader,
-  form_at,
-  closing,
-  after,
-  closed_by,
-  map_read,
-  iterate_most,
-  iterate,
-  members,
-  found_or_wrong,
-}
+use Rattle.token_readers.specs.Readers.{form, Answer, Reader, form_at, closing, after, closed_by, map_read, iterate_most, iterate}
+use Rattle.token_readers.specs.Readers.{members, found_or_wrong}
 use Rattle.token_readers.specs.Exact.{Grammar, Begins, Exact}
 use Rattle.token_readers.proofs.Runs.{exact_as}
 use Rattle.token_readers.proofs.Then.{Any, Tells, IsClosed, closed_exact}

@@ -2,23 +2,8 @@
 use Rattle.std.proofs.Common.{◌≡◌, ℕ, suc, List, [], ◌∷◌, ◌++◌, refl, ap, sym, ◌∙◌, append_assoc}
 use Rattle.std.specs.Prelude.{Ok, Err}
 use Rattle.token_readers.specs.Readers.{form, deep, Answer, Reader, map_read}
-use Rattle.token_readers.specs.Exact.{
-  Grammar,
-  SameFirst,
-  both_end,
-  both_begin,
-  Before,
-  Ending,
-  gives,
-  wrong,
-  too_deep,
-  ends_with,
-  Begins,
-  Says,
-  Run,
-  Agrees,
-  Exact,
-}
+use Rattle.token_readers.specs.Exact.{Grammar, SameFirst, both_end, both_begin, Before, Ending, gives, wrong, too_deep, ends_with, Begins}
+use Rattle.token_readers.specs.Exact.{Says, Run, Agrees, Exact}
 
 module _ {T : Type 0} where
   pub same_first : (xs : List T) → SameFirst xs xs

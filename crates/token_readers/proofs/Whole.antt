@@ -3,22 +3,8 @@ use Rattle.std.proofs.Common.{◌≡◌, ℕ, suc, ◌<◌, ◌≤◌, List, [],
 use Rattle.std.proofs.lemmas.List.{append-nil, append_cancel_right}
 use Rattle.std.specs.Prelude.{Ok, Err}
 use Rattle.token_readers.specs.Readers.{form, deep, Answer, Reader}
-use Rattle.token_readers.specs.Exact.{
-  Grammar,
-  SameFirst,
-  both_begin,
-  Before,
-  Ending,
-  gives,
-  wrong,
-  too_deep,
-  ends_with,
-  Begins,
-  Says,
-  Run,
-  Agrees,
-  Exact,
-}
+use Rattle.token_readers.specs.Exact.{Grammar, SameFirst, both_begin, Before, Ending, gives, wrong, too_deep, ends_with, Begins, Says}
+use Rattle.token_readers.specs.Exact.{Run, Agrees, Exact}
 use Rattle.token_readers.proofs.Runs.{same_first, same_read}
 use Rattle.token_readers.proofs.Iterates.{taken}
 

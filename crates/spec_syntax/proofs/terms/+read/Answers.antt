@@ -5,16 +5,8 @@ use Rattle.token_readers.specs.Readers.{map_read, closing}
 use Rattle.spec_syntax.specs.Reading.{is_close_round, bracketed_term, lower, arguments_of, after_name, opened, term_with, above}
 use Rattle.spec_syntax.specs.SyntaxView.{terminals_view, term_syntax}
 use Rattle.spec_syntax.specs.internal.InnerView.{arguments_view, arguments_syntax}
-use Rattle.spec_syntax.proofs.ReadLemmas.{
-  passed_on,
-  then_fault,
-  closed_read,
-  closed_fault,
-  begins_close,
-  not_opened,
-  opened_read,
-  opened_fault,
-}
+use Rattle.spec_syntax.proofs.ReadLemmas.{passed_on, then_fault, closed_read, closed_fault, begins_close, not_opened, opened_read}
+use Rattle.spec_syntax.proofs.ReadLemmas.{opened_fault}
 use Rattle.spec_syntax.proofs.ReadLoops.{arguments_more, arguments_shorten, arguments_end, arguments_fault}
 use Rattle.spec_syntax.proofs.terms.+read.Goals as goal
 
