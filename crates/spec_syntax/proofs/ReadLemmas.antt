@@ -6,20 +6,19 @@ use Rattle.std.proofs.lemmas.Result.{err_from_is_err_and}
 use Rattle.std.specs.Prelude.{◌≤◌, Bool, true, false, Option, Some, None, Result, Ok, Err, if◌then◌else◌, take, drop}
 use Rattle.std.specs.Borrow.{Bor}
 use Rattle.std.specs.Result.{IsErrAnd}
-use Rattle.tsl_text.specs.declared.TokenKind.TheVariants.{CloseRound, OpenBrace, LeftArrow}
-use Rattle.token_readers.specs.Readers.{form, deep, Answer, Reader, form_at, deep_at, closing, closed_by, and_then, map_read}
+use Rattle.tsl_text.specs.declared.TokenKind.TheVariants.{CloseRound}
+use Rattle.token_readers.specs.Readers.{form, deep, Answer, Reader, form_at, deep_at, closing, and_then, map_read}
 use Rattle.token_readers.specs.Readers.{below as below_level}
 use Rattle.spec_syntax.specs.declared.fault.ReadFault.{ReadFault}
 use Rattle.spec_syntax.specs.declared.fault.ReadFault.TheVariants.{Form, Deep, NoMemory}
 use Rattle.spec_syntax.specs.declared.terminal.Terminal.{Terminal as LentTerminal}
-use Rattle.spec_syntax.specs.Syntax.{Terminal, free, mark, TermSyntax, FormulaSyntax, updated}
+use Rattle.spec_syntax.specs.Syntax.{Terminal, mark, TermSyntax}
 use Rattle.spec_syntax.specs.SyntaxView.{terminal_view, terminals_view, HasSyntaxFault, Reads}
-use Rattle.spec_syntax.specs.declared.syntax.Part.{Part}
 use Rattle.spec_syntax.specs.declared.formulas.Form.{Form as GrammarForm}
 use Rattle.spec_syntax.specs.declared.formulas.Form.TheVariants.{Prefix, Right, Formula}
 use Rattle.spec_syntax.specs.internal.Forms.{reader_of, form_with}
-use Rattle.spec_syntax.specs.Reading.{is_close_brace, bracketed_formula, formulas, items, section_made, Level, is_close_round}
-use Rattle.spec_syntax.specs.Reading.{is_close_square, lower, above, bracketed_term, begins_term, beyond, opened, term_with, update_with}
+use Rattle.spec_syntax.specs.Reading.{Level}
+use Rattle.spec_syntax.specs.Reading.{lower, above, bracketed_term, begins_term, beyond, opened}
 
 pub no_level : (levels_left : ℕ) → levels_left ≡ 0 → lower levels_left ≡ None
 unfolding lower
@@ -59,20 +58,19 @@ first_view (x ∷ xs) d h = grind (arith, common_steps)
 -- a closing bracket, by its test
 pub close_read : (is : Terminal → Bool) (xs : List LentTerminal) (d : LentTerminal) → 1 ≤ length xs →
     is (terminal_view (get_or xs 0 d)) ≡ true →
-    closing is (tt {0}) (terminals_view xs) ≡ Ok (tt {0}, terminals_view (take (length xs - 1) (drop 1 xs)))
+    closing is (terminals_view xs) ≡ Ok (tt {0}, terminals_view (take (length xs - 1) (drop 1 xs)))
 unfolding closing
 close_read is xs d h e = rw (first_view xs d h, e) refl
 
 pub close_wrong : (is : Terminal → Bool) (xs : List LentTerminal) (d : LentTerminal) → 1 ≤ length xs →
-    is (terminal_view (get_or xs 0 d)) ≡ false →
-    closing is (tt {0}) (terminals_view xs) ≡ Err (form (length xs))
+    is (terminal_view (get_or xs 0 d)) ≡ false → closing is (terminals_view xs) ≡ Err (form (length xs))
 unfolding closing
 close_wrong is [] d h e = absurd (omega (arith, h))
 close_wrong is (x ∷ xs) d h e =
     ap (λ b. if b then Ok (tt {0}, terminals_view xs) else form_at (terminals_view (x ∷ xs))) e
     ∙ ap (λ n. Err (form n)) (length-map (x ∷ xs) terminal_view)
 
-pub close_end : (is : Terminal → Bool) (xs : List LentTerminal) → length xs < 1 → closing is (tt {0}) (terminals_view xs) ≡ Err (form 0)
+pub close_end : (is : Terminal → Bool) (xs : List LentTerminal) → length xs < 1 → closing is (terminals_view xs) ≡ Err (form 0)
 unfolding closing
 close_end is [] h = refl
 close_end is (x ∷ xs) h = absurd (omega (arith, h))
@@ -90,51 +88,7 @@ module _ {V W : Type 0} where
   map_fault make answer (Deep left) h = rw h refl
   map_fault make answer NoMemory h = tt
 
--- the terminals after what was read
-rest_of : {V : Type 0} → Answer Terminal V → List Terminal
-rest_of (Ok (v, rest)) = rest
-rest_of (Err fault) = []
-
-closing_value : {V : Type 0} (is : Terminal → Bool) (v : V) (xs rest : List Terminal) → closing is (tt {0}) xs ≡ Ok (tt {0}, rest) →
-    closing is v xs ≡ Ok (v, rest)
-unfolding closing rest_of
-closing_value is v [] rest h = cc
-closing_value is v (x ∷ xs) rest h = by (is x) h where
-  by : (b : Bool) → (if b then Ok (tt {0}, xs) else form_at (x ∷ xs)) ≡ Ok (tt {0}, rest) →
-      (if b then Ok (v, xs) else form_at (x ∷ xs)) ≡ Ok (v, rest)
-  by true h = let e : xs ≡ rest = ap rest_of h in rw e refl
-  by false h = cc
-
-closing_fault : {V : Type 0} (is : Terminal → Bool) (v : V) (xs : List Terminal) (fault : ReadFault) →
-    HasSyntaxFault (closing is (tt {0}) xs) fault → HasSyntaxFault (closing is v xs) fault
-unfolding closing
-closing_fault is v [] (Form left) h = cc
-closing_fault is v [] (Deep left) h = cc
-closing_fault is v xs NoMemory h = tt
-closing_fault is v (x ∷ xs) (Form left) h = by (is x) h where
-  by : (b : Bool) → (if b then Ok (tt {0}, xs) else form_at (x ∷ xs)) ≡ Err (form left) →
-      (if b then Ok (v, xs) else form_at (x ∷ xs)) ≡ Err (form left)
-  by true h = cc
-  by false h = cc
-closing_fault is v (x ∷ xs) (Deep left) h = by (is x) h where
-  by : (b : Bool) → (if b then Ok (tt {0}, xs) else form_at (x ∷ xs)) ≡ Err (deep left) →
-      (if b then Ok (v, xs) else form_at (x ∷ xs)) ≡ Err (deep left)
-  by true h = cc
-  by false h = cc
-
 module _ {V : Type 0} where
-  -- a form and its closing bracket
-  pub closed_read : (is : Terminal → Bool) (reader : Reader Terminal V) (xs : List Terminal) (v : V) (rest after : List Terminal) →
-      reader xs ≡ Ok (v, rest) →
-      closing is (tt {0}) rest ≡ Ok (tt {0}, after) → closed_by is reader xs ≡ Ok (v, after)
-  closed_read is reader xs v rest after h k = ap (λ answer. and_then answer (closing is)) h ∙ closing_value is v rest after k
-
-  pub closed_fault : (is : Terminal →
-      Bool) (reader : Reader Terminal V) (xs : List Terminal) (v : V) (rest : List Terminal) (fault : ReadFault) →
-      reader xs ≡ Ok (v, rest) →
-      HasSyntaxFault (closing is (tt {0}) rest) fault → HasSyntaxFault (closed_by is reader xs) fault
-  closed_fault is reader xs v rest fault h k = rw h (closing_fault is v rest fault k)
-
   -- what is read of the level below, after the first terminal
   pub below_is : (L : Type 0) (low : Option L) (l : L) (reader : L → Reader Terminal V) (xs : List LentTerminal) → low ≡ Some l →
       1 ≤ length xs →
@@ -187,39 +141,6 @@ pub opened_fault : (levels_left below : ℕ) (xs : List Terminal) (fault : ReadF
 opened_fault levels_left below xs fault e h k =
     rw (opened_is (lower levels_left) (above (lower below)) xs e h) (map_fault (λ t. Some t) (bracketed_term (above (lower below)) xs) fault k)
 
--- ---- an update
-
-pub updated_read : (l : Option Level) (name : List ℕ) (xs : List Terminal) (t : TermSyntax) (rest after : List Terminal) →
-    term_with l xs ≡ Ok (t, rest) → closing is_close_square (tt {0}) rest ≡ Ok (tt {0}, after) →
-    update_with l (free name ∷ mark LeftArrow ∷ xs) ≡ Ok (updated name t, after)
-unfolding update_with
-updated_read l name xs t rest after h k = ap (map_read (updated name)) (closed_read is_close_square (term_with l) xs t rest after h k)
-
-pub unclosed_update : (l : Option Level) (name : List ℕ) (xs : List Terminal) (t : TermSyntax) (rest : List Terminal) (fault : ReadFault) →
-    term_with l xs ≡ Ok (t, rest) → HasSyntaxFault (closing is_close_square (tt {0}) rest) fault →
-    HasSyntaxFault (update_with l (free name ∷ mark LeftArrow ∷ xs)) fault
-unfolding update_with
-unclosed_update l name xs t rest fault h k =
-    map_fault (updated name) (closed_by is_close_square (term_with l) xs) fault
-    (closed_fault is_close_square (term_with l) xs t rest fault h k)
-
--- ---- the items of a section between their braces
-
-pub items_read : (levels_left : ℕ) (part : Part) (xs : List Terminal) (fs : List FormulaSyntax) (rest after : List Terminal) →
-    formulas levels_left xs ≡ Ok (fs, rest) → closing is_close_brace (tt {0}) rest ≡ Ok (tt {0}, after) →
-    items levels_left part (mark OpenBrace ∷ xs) ≡ Ok (section_made part fs, after)
-unfolding items
-items_read levels_left part xs fs rest after h k =
-    ap (map_read (section_made part)) (closed_read is_close_brace (formulas levels_left) xs fs rest after h k)
-
-pub items_unclosed : (levels_left : ℕ) (part : Part) (xs : List Terminal) (fs : List FormulaSyntax) (rest : List Terminal) (fault : ReadFault) →
-    formulas levels_left xs ≡ Ok (fs, rest) → HasSyntaxFault (closing is_close_brace (tt {0}) rest) fault →
-    HasSyntaxFault (items levels_left part (mark OpenBrace ∷ xs)) fault
-unfolding items
-items_unclosed levels_left part xs fs rest fault h k =
-    map_fault (section_made part) (closed_by is_close_brace (formulas levels_left) xs) fault
-    (closed_fault is_close_brace (formulas levels_left) xs fs rest fault h k)
-
 -- ---- a form of the level below
 
 -- after the first terminal
@@ -235,22 +156,3 @@ form_after_first levels_left below kind xs h k = rw (h, (after_first xs k).1) (b
     by_form Prefix = refl
     by_form (Right kind) = refl
     by_form Formula = refl
-
--- in brackets
-below_bracketed : (l : Option Level) (xs : List Terminal) →
-    below_level l bracketed_formula xs ≡ and_then (below_level l (reader_of Formula) xs) (closing is_close_round)
-below_bracketed None xs = refl
-below_bracketed (Some m) [] = refl
-below_bracketed (Some m) (x ∷ xs) = refl
-
-pub formula_in_brackets : (l : Option Level) (xs : List Terminal) (f : FormulaSyntax) (rest after : List Terminal) →
-    below_level l (reader_of Formula) xs ≡ Ok (f, rest) → closing is_close_round (tt {0}) rest ≡ Ok (tt {0}, after) →
-    below_level l bracketed_formula xs ≡ Ok (f, after)
-formula_in_brackets l xs f rest after h k = below_bracketed l xs
-    ∙ closed_read is_close_round (below_level l (reader_of Formula)) xs f rest after h k
-
-pub formula_unclosed : (l : Option Level) (xs : List Terminal) (f : FormulaSyntax) (rest : List Terminal) (fault : ReadFault) →
-    below_level l (reader_of Formula) xs ≡ Ok (f, rest) → HasSyntaxFault (closing is_close_round (tt {0}) rest) fault →
-    HasSyntaxFault (below_level l bracketed_formula xs) fault
-formula_unclosed l xs f rest fault h k =
-    rw (below_bracketed l xs) (closed_fault is_close_round (below_level l (reader_of Formula)) xs f rest fault h k)

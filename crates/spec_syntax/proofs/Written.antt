@@ -2,11 +2,11 @@
 -- derived with.
 use Rattle.std.proofs.Common.{◌≡◌, ℕ, ◌≤◌, max, List, [], ◌∷◌, ◌++◌, Some, refl, ap, sym, ◌∙◌, arith}
 use Rattle.std.proofs.lemmas.List.{append-nil}
-use Rattle.tsl_text.specs.declared.TokenKind.TheVariants.{OpenSquare, CloseSquare, Not, And, Or, Arrow, BothArrow, LeftArrow}
-use Rattle.spec_syntax.specs.declared.syntax.Word.TheVariants.{X, F, G, U, W, R}
+use Rattle.tsl_text.specs.declared.TokenKind.TheVariants.{OpenSquare, CloseSquare, Not, Arrow, BothArrow, LeftArrow}
+use Rattle.spec_syntax.specs.declared.syntax.Word.TheVariants.{X, U}
 use Rattle.tsl_terms.specs.declared.operator.UnaryOperator.{UnaryOperator}
 use Rattle.tsl_terms.specs.declared.operator.BinaryOperator.{BinaryOperator}
-use Rattle.tsl_terms.specs.declared.operator.BinaryOperator.TheVariants.{Implication, Equivalence, Until, WeakUntil, Release}
+use Rattle.tsl_terms.specs.declared.operator.BinaryOperator.TheVariants.{Until, WeakUntil, Release}
 use Rattle.tsl_terms.specs.declared.operator.ManyOperator.{ManyOperator}
 use Rattle.tsl_terms.specs.declared.operator.ManyOperator.TheVariants.{Conjunction, Disjunction}
 use Rattle.spec_syntax.specs.Syntax.{Terminal, free, word, mark, TermSyntax, FormulaSyntax, listed_terms, listed_formulas, join}

@@ -79,7 +79,7 @@ fn closes(closer: Closer, terminal: &Terminal) -> bool
 
 /// What closes a form.
 pub(crate) fn close<'a, 'b>(closer: Closer, xs: &'b [Terminal<'a>]) -> Answer<'a, 'b, ()>
-    ensures { Reads (λ _. tt {0}) (closing (closes closer) (tt {0})) xs.now result }
+    ensures { Reads (λ _. tt {0}) (closing (closes closer)) xs.now result }
 {
     match xs {
         [] => Err(ReadFault::Form(0)),
@@ -118,6 +118,7 @@ fn beyond(xs: &[Terminal]) -> ReadFault
 
 /// A term in brackets, after the opening one.
 #[cycle(read)]
+#[tactic(auto, unfolding(crate::specs::Reading::above))]
 fn term_then_bracket<'a, 'b>(
     alloc: Global,
     levels_left: u32,

@@ -3,7 +3,7 @@ use Rattle.std.proofs.Common.{◌≡◌, ℕ, suc, Bool, true, false, List, [], 
 use Rattle.std.specs.Prelude.{Ok, Err, if◌then◌else◌}
 use Rattle.token_readers.specs.Readers.{form, deep, Answer, Reader, form_at, and_then, closing, closed_by}
 use Rattle.token_readers.specs.Exact.{Grammar, SameFirst, Before, Ending, gives, wrong, too_deep, ends_with, Begins, Says, Run, Agrees, Exact}
-use Rattle.token_readers.proofs.Runs.{same_first, same_split, exact_as, Same}
+use Rattle.token_readers.proofs.Runs.{same_first, same_split, exact_map, exact_as, Same}
 use Rattle.token_readers.proofs.Terminals.{Turn, by_first, end_wrong, turn_wrong, turn_alone}
 
 module _ {T V W : Type 0} where
@@ -144,6 +144,23 @@ pub record Tells {T : Type 0} (is : T → Bool) (mark : T) : Type 0 where
   pub yes : is mark ≡ true
   pub only : (x : T) → is x ≡ true → x ≡ mark
 
+-- this terminal
+abbrev pub IsMark : {T : Type 0} → T → Grammar T (Unit {0})
+IsMark mark r xs w = xs ≡ mark ∷ []
+
+-- a terminal that closes a form
+pub closing_exact : {T : Type 0} {is : T → Bool} {mark : T} → Tells is mark → (levels_left : ℕ) → Exact (IsMark mark) Any levels_left (closing is)
+unfolding closing
+closing_exact {T = T} {is = is} {mark = mark} tells levels_left = by_first (end_wrong refl closer (λ r w h. cc)) (λ x. by x (is x) refl) where
+  closer : Begins (IsMark mark levels_left) []
+  closer = record { ending = mark ∷ []; value = tt; derives = refl }
+
+  by : (x : T) (b : Bool) → is x ≡ b → Turn (IsMark mark) Any levels_left (closing is) x
+  by x true e = turn_alone tt (λ rest. ap (λ b. if b then Ok (tt {0}, rest) else form_at (x ∷ rest)) e)
+      (λ r. ap (λ y. y ∷ []) (tells.only x e)) (λ r ys w h. (cc, refl))
+  by x false e = turn_wrong (λ rest. ap (λ b. if b then Ok (tt {0}, rest) else form_at (x ∷ rest)) e) closer
+      (λ r ys w h. let same : x ≡ mark = cc in let both : false ≡ is mark = rw (← same) (sym e) in let yes_it = tells.yes in cc)
+
 module _ {T V : Type 0} where
   -- this terminal, and the same value
   abbrev pub IsClosing : T → V → Grammar T V
@@ -158,26 +175,12 @@ module _ {T V : Type 0} where
   lift_closed mark Is lift r xs v h = (h.0, h.1, lift r h.0 v h.2)
 
   module _ {is : T → Bool} {mark : T} (tells : Tells is mark) where
-    -- a terminal that closes a form
-    pub closing_exact : (v : V) (levels_left : ℕ) → Exact (IsClosing mark v) Any levels_left (closing is v)
-    unfolding closing
-    closing_exact v levels_left = by_first (end_wrong refl closer (λ r w h. let same = h.0 in cc)) (λ x. by x (is x) refl) where
-      closer : Begins (IsClosing mark v levels_left) []
-      closer = record { ending = mark ∷ []; value = v; derives = (refl, refl) }
-
-      never : (x : T) → is x ≡ false → (r : ℕ) (ys : List T) (w : V) → IsClosing mark v r (x ∷ ys) w → ⊥
-      never x e r ys w h = let same : x ≡ mark = (let whole = h.0 in cc) in let both : true ≡ is x = rw same (sym tells.yes) in cc
-
-      by : (x : T) (b : Bool) → is x ≡ b → Turn (IsClosing mark v) Any levels_left (closing is v) x
-      by x true e = turn_alone v (λ rest. ap (λ b. if b then Ok (v, rest) else form_at (x ∷ rest)) e)
-          (λ r. (ap (λ y. y ∷ []) (tells.only x e), refl)) (λ r ys w h. (let whole = h.0 in cc, h.1))
-      by x false e = turn_wrong (λ rest. ap (λ b. if b then Ok (v, rest) else form_at (x ∷ rest)) e) closer (never x e)
-
     pub closed_exact : {Is : Grammar T V} {ends : T → Type 0} {levels_left : ℕ} {reader : Reader T V} → ends mark →
         ((r : ℕ) (xs : List T) (v : V) → Is r xs v → Is (suc (suc r)) xs v) → Exact Is ends levels_left reader →
         Exact (IsClosed mark Is) Any levels_left (closed_by is reader)
     closed_exact {Is = Is} {ends = ends} {levels_left = levels_left} follows lift k =
-        exact_as to from (λ x h. h) (exact_then (record { lift = lift; default = closer }) follow k (λ v. closing_exact v levels_left)) where
+        exact_as to from (λ x h. h) (exact_then (record { lift = lift; default = closer }) follow k
+        (λ v. exact_map (λ u. v) (λ r xs u h. (h, refl)) (λ r xs w h. (tt, h.0, h.1)) (closing_exact tells levels_left))) where
           closer : (r : ℕ) (v : V) → Begins (IsClosing mark v r) []
           closer r v = record { ending = mark ∷ []; value = v; derives = (refl, refl) }
 

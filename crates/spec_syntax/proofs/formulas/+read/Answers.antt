@@ -4,8 +4,8 @@ use Rattle.token_readers.specs.Readers.{below, members}
 use Rattle.spec_syntax.specs.SyntaxView.{terminals_view, formula_syntax}
 use Rattle.spec_syntax.specs.internal.InnerView.{listed_syntax}
 use Rattle.spec_syntax.specs.internal.Forms.{reader_of, form_with}
-use Rattle.spec_syntax.specs.Reading.{lower, bracketed_formula, further, operand_with}
-use Rattle.spec_syntax.proofs.ReadLemmas.{passed_on, reads_as, form_after_first, formula_in_brackets, formula_unclosed}
+use Rattle.spec_syntax.specs.Reading.{lower, further, operand_with}
+use Rattle.spec_syntax.proofs.ReadLemmas.{passed_on, reads_as, form_after_first}
 use Rattle.spec_syntax.proofs.ReadLoops.{members_more, member_shortens, members_end, member_found_fault, further_shrinks}
 use Rattle.spec_syntax.proofs.formulas.+read.Goals as goal
 
@@ -15,15 +15,6 @@ form_below-returns-in-len1-up t c =
     c.args.xs.now (take (length c.args.xs.now - 1) (drop 1 c.args.xs.now)) c.form_with.result
     (form_after_first c.args.levels_left c.in_ok-below.below c.args.form c.args.xs.now c.in_ok-below.ensures.ok c.in-len1-up.len_at_least)
     c.form_with.ensures
-
-pub bracketed_formula-returns-in_err-rest : goal.bracketed_formula-returns-in_err-rest
-bracketed_formula-returns-in_err-rest t c =
-    passed_on formula_syntax (below (lower c.args.levels_left) bracketed_formula) c.args.xs.now _ _ c.from_residual-in_err-rest.ensures.1
-    (formula_unclosed (lower c.args.levels_left) (terminals_view c.args.xs.now) _ _ _ c.in_ok-formula.ensures c.in_err-rest.ensures)
-
-pub bracketed_formula-returns : goal.bracketed_formula-returns
-bracketed_formula-returns t c =
-    formula_in_brackets (lower c.args.levels_left) (terminals_view c.args.xs.now) _ _ _ c.in_ok-formula.ensures c.in_ok-rest.ensures
 
 pub operands-returns-in_err-operand : goal.operands-returns-in_err-operand
 operands-returns-in_err-operand t c =

@@ -1,11 +1,11 @@
 use Rattle.std.proofs.Common.{◌≡◌, arith, ap, sym, ◌∙◌}
 use Rattle.std.proofs.lemmas.Grind.{common_steps}
 use Rattle.std.specs.Prelude.{false, option_map}
-use Rattle.token_readers.specs.Readers.{map_read, closing}
-use Rattle.spec_syntax.specs.Reading.{is_close_round, bracketed_term, lower, arguments_of, after_name, opened, term_with, above}
+use Rattle.token_readers.specs.Readers.{map_read}
+use Rattle.spec_syntax.specs.Reading.{lower, arguments_of, after_name, opened}
 use Rattle.spec_syntax.specs.SyntaxView.{terminals_view, term_syntax}
 use Rattle.spec_syntax.specs.internal.InnerView.{arguments_view, arguments_syntax}
-use Rattle.spec_syntax.proofs.ReadLemmas.{passed_on, then_fault, closed_read, closed_fault, begins_close, not_opened, opened_read}
+use Rattle.spec_syntax.proofs.ReadLemmas.{passed_on, begins_close, not_opened, opened_read}
 use Rattle.spec_syntax.proofs.ReadLemmas.{opened_fault}
 use Rattle.spec_syntax.proofs.ReadLoops.{arguments_more, arguments_shorten, arguments_end, arguments_fault}
 use Rattle.spec_syntax.proofs.terms.+read.Goals as goal
@@ -54,22 +54,3 @@ pub opened-returns-in_ok-term-in-Some : goal.opened-returns-in_ok-term-in-Some
 opened-returns-in_ok-term-in-Some t c =
     let other : begins_close (terminals_view c.args.xs.now) ≡ false = grind (arith, common_steps) in
     opened_read c.args.levels_left c.in-Some.below (terminals_view c.args.xs.now) _ _ c.in-Some.ensures.some other c.in_ok-term-in-Some.ensures
-
-pub term_then_bracket-returns-in_err-term : goal.term_then_bracket-returns-in_err-term
-unfolding above
-term_then_bracket-returns-in_err-term t c =
-    passed_on term_syntax (bracketed_term (above (lower c.args.levels_left))) c.args.xs.now _ _ c.from_residual.ensures.1
-    (then_fault (term_with (lower c.args.levels_left) (terminals_view c.args.xs.now)) (closing is_close_round) _ c.in_err-term.ensures)
-
-pub term_then_bracket-returns-in_err-rest : goal.term_then_bracket-returns-in_err-rest
-unfolding above
-term_then_bracket-returns-in_err-rest t c =
-    passed_on term_syntax (bracketed_term (above (lower c.args.levels_left))) c.args.xs.now _ _ c.from_residual-in_err-rest.ensures.1
-    (closed_fault is_close_round (term_with (lower c.args.levels_left))
-    (terminals_view c.args.xs.now) _ _ _ c.in_ok-term.ensures c.in_err-rest.ensures)
-
-pub term_then_bracket-returns : goal.term_then_bracket-returns
-unfolding above
-term_then_bracket-returns t c =
-    closed_read is_close_round (term_with (lower c.args.levels_left))
-    (terminals_view c.args.xs.now) _ _ _ c.in_ok-term.ensures c.in_ok-rest.ensures
