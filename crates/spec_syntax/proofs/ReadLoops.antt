@@ -2,7 +2,7 @@
 use Rattle.std.proofs.Common.{◌≡◌, ℕ, ◌<◌, List, [], ◌∷◌, ◌++◌, length, map, refl, ap, sym, ◌∙◌, arith}
 use Rattle.std.proofs.lemmas.List.{map-append, length-map}
 use Rattle.std.specs.Prelude.{true, false, Option, Some, None, is_some, Ok}
-use Rattle.tsl_text.specs.declared.TokenKind.TheVariants.{OpenRound, CloseBrace, Semicolon}
+use Rattle.tsl_text.specs.declared.TokenKind.TheVariants.{OpenRound, CloseBrace}
 use Rattle.spec_syntax.specs.declared.trees.ReadFormula.{ReadFormula}
 use Rattle.token_readers.specs.Readers.{form, deep, Answer, iterate, push, push_read, map_read, found_or_wrong}
 use Rattle.token_readers.proofs.Iterates.{Shrinks, step_shrinks, no_step, next_step, wrong_step}
@@ -15,9 +15,11 @@ use Rattle.spec_syntax.specs.declared.fault.ReadFault.TheVariants.{Form, Deep, N
 use Rattle.spec_syntax.specs.Syntax.{Terminal, free, mark, FormulaSyntax}
 use Rattle.spec_syntax.specs.SyntaxView.{terminal_view, terminals_view, formula_syntax, HasSyntaxFault}
 use Rattle.spec_syntax.specs.internal.InnerView.{HasFaultOfMember}
+use Rattle.spec_syntax.specs.declared.formulas.Form.TheVariants.{Formula}
+use Rattle.spec_syntax.specs.internal.Forms.{form_with}
 use Rattle.spec_syntax.specs.Reading.{Level, lower, Arguments, empty, term_last, argument, argument_wanted, fresh, goes_on, arguments_of, further, operand_with}
-use Rattle.spec_syntax.specs.Reading.{open_items, item_last}
-use Rattle.spec_syntax.specs.Reading.{items_of, item, begins_item, formula_with, formulas}
+use Rattle.spec_syntax.specs.Reading.{above, Items, open_items, item_last}
+use Rattle.spec_syntax.specs.Reading.{items_of, item, begins_item}
 use Rattle.spec_syntax.proofs.ReadLemmas.{map_fault}
 use Rattle.spec_syntax.proofs.ExactTerms.{stepping as argument_stepping}
 use Rattle.spec_syntax.proofs.ExactPrefixes.{terms_below, prefix_exact}
@@ -28,11 +30,12 @@ seen_shorter : (xs rest : List LentTerminal) → length (terminals_view rest) < 
 seen_shorter xs rest h = omega (arith, length-map xs terminal_view, length-map rest terminal_view, h)
 
 module _ {S : Type 0} {step : S → List Terminal → Option (Answer Terminal S)} (shrinks : Shrinks step) where
-  step_fault : (s : S) (xs : List Terminal) (fault : ReadFault) → HasFaultOfMember (step s xs) fault →
-      HasSyntaxFault (iterate step s xs) fault
-  step_fault s xs (Form left) h = wrong_step shrinks s xs (form left) h
-  step_fault s xs (Deep left) h = wrong_step shrinks s xs (deep left) h
-  step_fault s xs NoMemory h = tt
+  -- a step has a fault
+  pub loop_fault : (s : S) (xs : List Terminal) (whole : Answer Terminal S) (fault : ReadFault) → iterate step s xs ≡ whole →
+      HasFaultOfMember (step s xs) fault → HasSyntaxFault whole fault
+  loop_fault s xs whole (Form left) e h = sym e ∙ wrong_step shrinks s xs (form left) h
+  loop_fault s xs whole (Deep left) e h = sym e ∙ wrong_step shrinks s xs (deep left) h
+  loop_fault s xs whole NoMemory e h = tt
 
 module _ {V : Type 0} where
   -- a member's fault
@@ -68,7 +71,7 @@ module _ {U V : Type 0} (view : U → V) (member : List Terminal → Option (Ans
   pub members_fault : (xs : List Terminal) (vs : List V) (whole : Answer Terminal (List V)) (fault : ReadFault) →
       iterate (push member) vs xs ≡ whole →
       HasFaultOfMember (member xs) fault → HasSyntaxFault whole fault
-  members_fault xs vs whole fault h k = rw (← h) (step_fault shrinks vs xs fault (push_fault vs (member xs) fault k))
+  members_fault xs vs whole fault h k = loop_fault shrinks vs xs whole fault h (push_fault vs (member xs) fault k)
 
   -- the reader of a member has one
   pub member_found_fault : (xs : List Terminal) (vs : List V) (whole : Answer Terminal (List V)) (answer : Answer Terminal V)
@@ -133,80 +136,49 @@ pub arguments_fault : (levels_left : ℕ) (s : Arguments) (xs ys : List Terminal
     HasSyntaxFault (map_read arguments_of (iterate (argument (lower levels_left)) fresh ys)) fault
 arguments_fault levels_left s xs ys fault h k e =
     map_fault arguments_of (iterate (argument (lower levels_left)) fresh ys) fault
-    (rw (← e) (step_fault (arguments_shrink levels_left) s xs fault
-    (found_fault (argument (lower levels_left) s xs) xs fault (argument_is levels_left s xs h) k)))
+    (loop_fault (arguments_shrink levels_left) s xs _ fault e
+    (found_fault (argument (lower levels_left) s xs) xs fault (argument_is levels_left s xs h) k))
 
 -- ---- the items of a section
 
-item_is : (levels_left : ℕ) (fs : List FormulaSyntax) (xs : List Terminal) → begins_item xs ≡ true →
-    item levels_left (open_items fs) xs ≡ Some (map_read (λ f. item_last (fs ++ f ∷ [])) (formula_with (lower levels_left) xs))
-unfolding item
+pub item_is : (levels_left : ℕ) (fs : List FormulaSyntax) (xs : List Terminal) → begins_item xs ≡ true →
+    item levels_left (open_items fs) xs ≡ Some (map_read (λ f. item_last (fs ++ f ∷ [])) (form_with Formula (lower levels_left) xs))
+unfolding item above
 item_is levels_left fs [] h = cc
 item_is levels_left fs (mark CloseBrace ∷ xs) h = cc
 item_is levels_left fs _ h = refl
 
-no_item_is : (levels_left : ℕ) (fs : List FormulaSyntax) (xs : List Terminal) → begins_item xs ≡ false → item levels_left (open_items fs) xs ≡ None
+pub no_item_is : (levels_left : ℕ) (fs : List FormulaSyntax) (xs : List Terminal) → begins_item xs ≡ false →
+    item levels_left (open_items fs) xs ≡ None
 unfolding item
 no_item_is levels_left fs [] h = refl
 no_item_is levels_left fs (mark CloseBrace ∷ xs) h = refl
 no_item_is levels_left fs _ h = cc
 
-semicolon_is : (levels_left : ℕ) (fs : List FormulaSyntax) (xs : List Terminal) →
-    item levels_left (item_last fs) (mark Semicolon ∷ xs) ≡ Some (Ok (open_items fs, xs))
-unfolding item
-semicolon_is levels_left fs xs = refl
+module _ (levels_left : ℕ) (fs : List ReadFormula) (f : ReadFormula) (xs rest : List LentTerminal) (whole : Answer Terminal Items)
+    (step : (gs : List FormulaSyntax) →
+    item levels_left (open_items gs) (terminals_view xs) ≡ Some (Ok (item_last (gs ++ formula_syntax f ∷ []), terminals_view rest)))
+    (so_far : iterate (item levels_left) (open_items (map formula_syntax fs)) (terminals_view xs) ≡ whole) where
+  -- a formula was read
+  item_read : iterate (item levels_left) (item_last (map formula_syntax (fs ++ f ∷ []))) (terminals_view rest) ≡ whole
+  item_read = rw map-append
+      (next_step (item_shrinks levels_left) (open_items (map formula_syntax fs)) (terminals_view xs)
+      (item_last (map formula_syntax fs ++ formula_syntax f ∷ [])) (terminals_view rest) (step (map formula_syntax fs)) ∙ so_far)
 
--- a formula was read
-item_read : (levels_left : ℕ) (fs : List ReadFormula) (f : ReadFormula) (xs rest : List Terminal) → begins_item xs ≡ true →
-    formula_with (lower levels_left) xs ≡ Ok (formula_syntax f, rest) →
-    iterate (item levels_left) (item_last (map formula_syntax (fs ++ f ∷ []))) rest ≡ iterate (item levels_left) (open_items (map formula_syntax fs)) xs
-item_read levels_left fs f xs rest h k =
-    ap (λ gs. iterate (item levels_left) (item_last gs) rest) (map-append formula_syntax fs (f ∷ []))
-    ∙ next_step (item_shrinks levels_left) (open_items (map formula_syntax fs)) xs
-    (item_last (map formula_syntax fs ++ formula_syntax f ∷ [])) rest
-    (item_is levels_left (map formula_syntax fs) xs h ∙ ap (λ answer. Some (map_read (λ g. item_last (map formula_syntax fs ++ g ∷ [])) answer)) k)
+  -- and its semicolon
+  pub items_more : (after : List LentTerminal) →
+      ((n : ℕ) (gs : List FormulaSyntax) → item n (item_last gs) (terminals_view rest) ≡ Some (Ok (open_items gs, terminals_view after))) →
+      iterate (item levels_left) (open_items (map formula_syntax (fs ++ f ∷ []))) (terminals_view after) ≡ whole
+  items_more after h =
+      next_step (item_shrinks levels_left) _ (terminals_view rest) _ (terminals_view after) (h levels_left (map formula_syntax (fs ++ f ∷ []))) ∙ item_read
 
--- a formula and its semicolon were read
-pub items_more : (levels_left : ℕ) (fs : List ReadFormula) (f : ReadFormula) (xs rest after : List Terminal) → begins_item xs ≡ true →
-    formula_with (lower levels_left) xs ≡ Ok (formula_syntax f, rest) → rest ≡ mark Semicolon ∷ after →
-    iterate (item levels_left) (open_items (map formula_syntax (fs ++ f ∷ []))) after ≡ iterate (item levels_left) (open_items (map formula_syntax fs)) xs
-items_more levels_left fs f xs rest after h k e =
-    next_step (item_shrinks levels_left) (item_last (map formula_syntax (fs ++ f ∷ []))) rest
-    (open_items (map formula_syntax (fs ++ f ∷ []))) after
-    (ap (item levels_left (item_last (map formula_syntax (fs ++ f ∷ [])))) e ∙ semicolon_is levels_left (map formula_syntax (fs ++ f ∷ [])) after)
-    ∙ item_read levels_left fs f xs rest h k
+  -- or it was the last
+  pub items_last : ((n : ℕ) (gs : List FormulaSyntax) → item n (item_last gs) (terminals_view rest) ≡ None) →
+      map_read items_of whole ≡ Ok (map formula_syntax (fs ++ f ∷ []), terminals_view rest)
+  items_last h = ap (map_read items_of) (sym item_read ∙ no_step (item_shrinks levels_left) _ (terminals_view rest) (h levels_left _))
 
--- a last formula was read
-pub items_last : (levels_left : ℕ) (fs : List ReadFormula) (f : ReadFormula) (xs rest ys : List Terminal) → begins_item xs ≡ true →
-    formula_with (lower levels_left) xs ≡ Ok (formula_syntax f, rest) → item levels_left (item_last (map formula_syntax (fs ++ f ∷ []))) rest ≡ None →
-    iterate (item levels_left) (open_items (map formula_syntax fs)) xs ≡ iterate (item levels_left) (open_items []) ys →
-    formulas levels_left ys ≡ Ok (map formula_syntax (fs ++ f ∷ []), rest)
-unfolding formulas
-items_last levels_left fs f xs rest ys h k none e =
-    ap (map_read items_of) (sym e ∙ sym (item_read levels_left fs f xs rest h k)
-    ∙ no_step (item_shrinks levels_left) (item_last (map formula_syntax (fs ++ f ∷ []))) rest none)
-
--- no item is left
-pub items_end : (levels_left : ℕ) (fs : List FormulaSyntax) (xs ys : List Terminal) → begins_item xs ≡ false →
-    iterate (item levels_left) (open_items fs) xs ≡ iterate (item levels_left) (open_items []) ys → formulas levels_left ys ≡ Ok (fs, xs)
-unfolding formulas
-items_end levels_left fs xs ys h e = ap (map_read items_of) (sym e ∙ no_step (item_shrinks levels_left) (open_items fs) xs (no_item_is levels_left fs xs h))
-
--- a formula has a fault
-pub items_fault : (levels_left : ℕ) (fs : List FormulaSyntax) (xs ys : List Terminal) (fault : ReadFault) → begins_item xs ≡ true →
-    HasSyntaxFault (formula_with (lower levels_left) xs) fault →
-    iterate (item levels_left) (open_items fs) xs ≡ iterate (item levels_left) (open_items []) ys → HasSyntaxFault (formulas levels_left ys) fault
-unfolding formulas
-items_fault levels_left fs xs ys fault h k e =
-    map_fault items_of (iterate (item levels_left) (open_items []) ys) fault
-    (rw (← e) (step_fault (item_shrinks levels_left) (open_items fs) xs fault
-    (rw (item_is levels_left fs xs h) (member_fault (map_read (λ f. item_last (fs ++ f ∷ [])) (formula_with (lower levels_left) xs)) fault
-    (map_fault (λ f. item_last (fs ++ f ∷ [])) (formula_with (lower levels_left) xs) fault k)))))
-
--- a formula and its semicolon take terminals
-pub items_shorten : (levels_left : ℕ) (f : FormulaSyntax) (xs rest after : List LentTerminal) → begins_item (terminals_view xs) ≡ true →
-    formula_with (lower levels_left) (terminals_view xs) ≡ Ok (f, terminals_view rest) → length after < length rest → length after < length xs
-items_shorten levels_left f xs rest after h k few =
-    let less = seen_shorter xs rest (item_shrinks levels_left (open_items []) (terminals_view xs) (item_last (f ∷ [])) (terminals_view rest)
-    (item_is levels_left [] (terminals_view xs) h ∙ ap (λ answer. Some (map_read (λ g. item_last (g ∷ [])) answer)) k)) in
-    omega (arith, less, few)
+  -- it takes terminals, and so does a semicolon
+  pub items_shorten : (after : List LentTerminal) → length after < length rest → length after < length xs
+  items_shorten after few =
+      let less = seen_shorter xs rest (item_shrinks levels_left (open_items []) (terminals_view xs) _ (terminals_view rest) (step [])) in
+      omega (arith, less, few)

@@ -188,7 +188,7 @@ fn form_below<'a, 'b>(
 
 /// A form above this level.
 #[cycle(read)]
-#[tactic(auto, unfolding(crate::specs::Reading::right_with, crate::specs::Reading::formula_with))]
+#[tactic(auto, unfolding(crate::specs::Reading::above, crate::specs::Reading::right_with, crate::specs::Reading::formula_with))]
 pub(crate) fn form_with<'a, 'b>(
     alloc: Global,
     levels_left: u32,

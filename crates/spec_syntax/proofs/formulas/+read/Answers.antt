@@ -1,20 +1,12 @@
-use Rattle.std.proofs.Common.{◌-◌, length, map, take, drop, sym, ◌∙◌, ap}
+use Rattle.std.proofs.Common.{map, sym, ◌∙◌, ap}
 use Rattle.std.specs.Prelude.{Some}
-use Rattle.token_readers.specs.Readers.{below, members}
+use Rattle.token_readers.specs.Readers.{members}
 use Rattle.spec_syntax.specs.SyntaxView.{terminals_view, formula_syntax}
 use Rattle.spec_syntax.specs.internal.InnerView.{listed_syntax}
-use Rattle.spec_syntax.specs.internal.Forms.{reader_of, form_with}
 use Rattle.spec_syntax.specs.Reading.{lower, further, operand_with}
-use Rattle.spec_syntax.proofs.ReadLemmas.{passed_on, reads_as, form_after_first}
+use Rattle.spec_syntax.proofs.ReadLemmas.{passed_on}
 use Rattle.spec_syntax.proofs.ReadLoops.{members_more, member_shortens, members_end, member_found_fault, further_shrinks}
 use Rattle.spec_syntax.proofs.formulas.+read.Goals as goal
-
-pub form_below-returns-in-len1-up : goal.form_below-returns-in-len1-up
-form_below-returns-in-len1-up t c =
-    reads_as formula_syntax (below (lower c.args.levels_left) (reader_of c.args.form)) (form_with c.args.form (lower c.in_ok-below.below))
-    c.args.xs.now (take (length c.args.xs.now - 1) (drop 1 c.args.xs.now)) c.form_with.result
-    (form_after_first c.args.levels_left c.in_ok-below.below c.args.form c.args.xs.now c.in_ok-below.ensures.ok c.in-len1-up.len_at_least)
-    c.form_with.ensures
 
 pub operands-returns-in_err-operand : goal.operands-returns-in_err-operand
 operands-returns-in_err-operand t c =

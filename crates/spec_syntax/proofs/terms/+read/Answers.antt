@@ -1,12 +1,9 @@
-use Rattle.std.proofs.Common.{◌≡◌, arith, ap, sym, ◌∙◌}
-use Rattle.std.proofs.lemmas.Grind.{common_steps}
-use Rattle.std.specs.Prelude.{false, option_map}
+use Rattle.std.proofs.Common.{ap, sym, ◌∙◌}
 use Rattle.token_readers.specs.Readers.{map_read}
-use Rattle.spec_syntax.specs.Reading.{lower, arguments_of, after_name, opened}
-use Rattle.spec_syntax.specs.SyntaxView.{terminals_view, term_syntax}
+use Rattle.spec_syntax.specs.Reading.{lower, arguments_of, after_name}
+use Rattle.spec_syntax.specs.SyntaxView.{terminals_view}
 use Rattle.spec_syntax.specs.internal.InnerView.{arguments_view, arguments_syntax}
-use Rattle.spec_syntax.proofs.ReadLemmas.{passed_on, begins_close, not_opened, opened_read}
-use Rattle.spec_syntax.proofs.ReadLemmas.{opened_fault}
+use Rattle.spec_syntax.proofs.ReadLemmas.{passed_on}
 use Rattle.spec_syntax.proofs.ReadLoops.{arguments_more, arguments_shorten, arguments_end, arguments_fault}
 use Rattle.spec_syntax.proofs.terms.+read.Goals as goal
 
@@ -37,20 +34,3 @@ after_name-returns t c =
     (ap (map_read arguments_of) (sym c.loop-arguments.invariant
     ∙ arguments_end c.args.levels_left (arguments_view c.loop-arguments.arguments) (terminals_view c.loop-arguments.left.terminals.now)
     (sym c.goes_on.ensures ∙ c.loop-arguments-test.false)))
-
-pub opened-returns-in_err-term-in-Some : goal.opened-returns-in_err-term-in-Some
-opened-returns-in_err-term-in-Some t c =
-    let other : begins_close (terminals_view c.args.xs.now) ≡ false = grind (arith, common_steps) in
-    passed_on (option_map term_syntax) (opened (lower c.args.levels_left)) c.args.xs.now _ _ c.from_residual.ensures.1
-    (opened_fault c.args.levels_left c.in-Some.below
-    (terminals_view c.args.xs.now) _ c.in-Some.ensures.some other c.in_err-term-in-Some.ensures)
-
-pub opened-returns-in-None : goal.opened-returns-in-None
-opened-returns-in-None t c =
-    let other : begins_close (terminals_view c.args.xs.now) ≡ false = grind (arith, common_steps) in
-    not_opened c.args.levels_left c.args.xs.now c.beyond.result c.in-None.ensures.none other c.beyond.ensures
-
-pub opened-returns-in_ok-term-in-Some : goal.opened-returns-in_ok-term-in-Some
-opened-returns-in_ok-term-in-Some t c =
-    let other : begins_close (terminals_view c.args.xs.now) ≡ false = grind (arith, common_steps) in
-    opened_read c.args.levels_left c.in-Some.below (terminals_view c.args.xs.now) _ _ c.in-Some.ensures.some other c.in_ok-term-in-Some.ensures
