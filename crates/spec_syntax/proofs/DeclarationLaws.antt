@@ -66,16 +66,10 @@ pub sections_are_all : {levels_left : ℕ} {xs : List Terminal} {ss : List Secti
 sections_are_all no_section = no_declaration
 sections_are_all (section h k) = a_section h (sections_are_all k)
 
-pub only_sections : {levels_left : ℕ} {xs own : List Terminal} {ds : List Declaration} → AreDeclarations levels_left xs own ds → (ss : List SectionSyntax) →
-    ds ≡ map the_section ss → (own ≡ xs) × AreSections levels_left xs ss
-only_sections no_declaration [] e = (refl, no_section)
-only_sections {levels_left = levels_left} (a_section {xs = us} {s = t} {ds = ds} h k) (s ∷ ss) e =
-    let rest = only_sections k ss (cc) in
-    let same : t ≡ s = cc in
-    let here : IsSection levels_left us s = rw same at h in
-    (ap (λ ts. us ++ ts) rest.0, section here rest.1)
-only_sections _ [] e = cc
-only_sections _ (s ∷ ss) e = cc
+pub only_sections : {levels_left : ℕ} {xs own : List Terminal} (ss : List SectionSyntax) → AreDeclarations levels_left xs own (map the_section ss) →
+    (own ≡ xs) × AreSections levels_left xs ss
+only_sections [] no_declaration = (refl, no_section)
+only_sections (s ∷ ss) (a_section {xs = us} h k) = let rest = only_sections ss k in (ap (λ ts. us ++ ts) rest.0, section h rest.1)
 
 -- ---- names
 

@@ -198,5 +198,6 @@ pub declarations_derive : (levels_left : ℕ) (xs : List Terminal) (ds : List De
     IsText levels_left xs ds
 declarations_derive levels_left xs ds rest h = (whole_text levels_left xs ds rest h).1
 
-pub declarations_read : (levels_left : ℕ) (xs : List Terminal) (ds : List Declaration) → IsText levels_left xs ds → declarations levels_left xs ≡ Ok (ds, [])
-declarations_read levels_left = reads_all (declarations_exact levels_left) levels_left (omega arith)
+pub declarations_read : (levels_left : ℕ) (xs own : List Terminal) (ds : List Declaration) → AreDeclarations levels_left xs own ds →
+    declarations levels_left xs ≡ Ok (ds, [])
+declarations_read levels_left xs own ds h = reads_all (declarations_exact levels_left) levels_left (omega arith) xs ds (own, h)
