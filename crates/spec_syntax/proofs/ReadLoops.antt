@@ -12,19 +12,20 @@ use Rattle.tsl_terms.specs.declared.operator.ManyOperator.TheVariants.{Conjuncti
 use Rattle.spec_syntax.specs.declared.fault.ReadFault.{ReadFault}
 use Rattle.spec_syntax.specs.declared.terminal.Terminal.{Terminal as LentTerminal}
 use Rattle.spec_syntax.specs.declared.fault.ReadFault.TheVariants.{Form, Deep, NoMemory}
-use Rattle.spec_syntax.specs.Syntax.{Terminal, free, mark, FormulaSyntax}
+use Rattle.spec_syntax.specs.Syntax.{Terminal, free, mark, FormulaSyntax, SectionSyntax, Declaration}
 use Rattle.spec_syntax.specs.SyntaxView.{terminal_view, terminals_view, formula_syntax, HasSyntaxFault}
 use Rattle.spec_syntax.specs.internal.InnerView.{HasFaultOfMember}
 use Rattle.spec_syntax.specs.declared.formulas.Form.TheVariants.{Formula}
 use Rattle.spec_syntax.specs.internal.Forms.{form_with}
 use Rattle.spec_syntax.specs.Reading.{Level, lower, Arguments, empty, term_last, argument, argument_wanted, fresh, goes_on, arguments_of, further, operand_with}
 use Rattle.spec_syntax.specs.Reading.{above, Items, open_items, item_last}
-use Rattle.spec_syntax.specs.Reading.{items_of, item, begins_item}
+use Rattle.spec_syntax.specs.Reading.{items_of, item, begins_item, name_at, section, declaration}
 use Rattle.spec_syntax.proofs.ReadLemmas.{map_fault}
 use Rattle.spec_syntax.proofs.ExactTerms.{stepping as argument_stepping}
 use Rattle.spec_syntax.proofs.ExactPrefixes.{terms_below, prefix_exact}
 use Rattle.spec_syntax.proofs.ExactFormulas.{below_exact, and_exact, further_member, and_facts, or_facts}
-use Rattle.spec_syntax.proofs.ExactSections.{item_shrinks}
+use Rattle.spec_syntax.proofs.ExactSections.{item_shrinks, section_shrinks}
+use Rattle.spec_syntax.proofs.ExactDeclarations.{name_shrinks, declaration_shrinks}
 
 seen_shorter : (xs rest : List LentTerminal) → length (terminals_view rest) < length (terminals_view xs) → length rest < length xs
 seen_shorter xs rest h = omega (arith, length-map xs terminal_view, length-map rest terminal_view, h)
@@ -50,22 +51,11 @@ module _ {V : Type 0} where
   push_fault vs found (Deep left) h = ap (push_read vs) h
   push_fault vs found NoMemory h = tt
 
-module _ {U V : Type 0} (view : U → V) (member : List Terminal → Option (Answer Terminal V)) (shrinks : Shrinks (push member)) where
-  -- a member was read
-  pub members_more : (xs rest : List Terminal) (before : List U) (u : U) → member xs ≡ Some (Ok (view u, rest)) →
-      iterate (push member) (map view (before ++ u ∷ [])) rest ≡ iterate (push member) (map view before) xs
-  members_more xs rest before u h =
-      ap (λ vs. iterate (push member) vs rest) (map-append view before (u ∷ []))
-      ∙ next_step shrinks (map view before) xs (map view before ++ view u ∷ []) rest (ap (push_read (map view before)) h)
-
-  -- and fewer terminals are left
+module _ {V : Type 0} (member : List Terminal → Option (Answer Terminal V)) (shrinks : Shrinks (push member)) where
+  -- a member takes terminals
   pub member_shortens : (xs rest : List LentTerminal) (v : V) → member (terminals_view xs) ≡ Some (Ok (v, terminals_view rest)) →
       length rest < length xs
   member_shortens xs rest v h = seen_shorter xs rest (shrinks [] (terminals_view xs) (v ∷ []) (terminals_view rest) (ap (push_read []) h))
-
-  -- no member is left
-  pub members_end : (xs : List Terminal) (vs : List V) → member xs ≡ None → iterate (push member) vs xs ≡ Ok (vs, xs)
-  members_end xs vs h = no_step shrinks vs xs (ap (push_read vs) h)
 
   -- a member has a fault
   pub members_fault : (xs : List Terminal) (vs : List V) (whole : Answer Terminal (List V)) (fault : ReadFault) →
@@ -79,9 +69,26 @@ module _ {U V : Type 0} (view : U → V) (member : List Terminal → Option (Ans
       member xs ≡ Some answer → HasSyntaxFault answer fault → HasSyntaxFault whole fault
   member_found_fault xs vs whole answer fault h k e = members_fault xs vs whole fault h (rw k (member_fault answer fault e))
 
+-- a member takes terminals
+pub name_shorter : (xs rest : List LentTerminal) (x : List ℕ) → name_at (terminals_view xs) ≡ Some (Ok (x, terminals_view rest)) →
+    length rest < length xs
+name_shorter = member_shortens name_at name_shrinks
+
+pub section_shorter : (levels_left : ℕ) (xs rest : List LentTerminal) (s : SectionSyntax) →
+    section levels_left (terminals_view xs) ≡ Some (Ok (s, terminals_view rest)) → length rest < length xs
+section_shorter levels_left = member_shortens (section levels_left) (section_shrinks levels_left)
+
+pub declaration_shorter : (levels_left : ℕ) (xs rest : List LentTerminal) (d : Declaration) →
+    declaration levels_left (terminals_view xs) ≡ Some (Ok (d, terminals_view rest)) → length rest < length xs
+declaration_shorter levels_left = member_shortens (declaration levels_left) (declaration_shrinks levels_left)
+
 pub further_shrinks : (op : ManyOperator) (levels_left : ℕ) → Shrinks (push (further op (operand_with op (lower levels_left))))
 further_shrinks Conjunction levels_left = step_shrinks (list_stepping (further_member and_facts levels_left (prefix_exact levels_left (lower levels_left) (below_exact levels_left))))
 further_shrinks Disjunction levels_left = step_shrinks (list_stepping (further_member or_facts levels_left (and_exact levels_left (lower levels_left) (below_exact levels_left))))
+
+pub further_shorter : (op : ManyOperator) (levels_left : ℕ) (xs rest : List LentTerminal) (f : FormulaSyntax) →
+    further op (operand_with op (lower levels_left)) (terminals_view xs) ≡ Some (Ok (f, terminals_view rest)) → length rest < length xs
+further_shorter op levels_left = member_shortens (further op (operand_with op (lower levels_left))) (further_shrinks op levels_left)
 
 -- ---- what follows a name
 
@@ -155,30 +162,38 @@ no_item_is levels_left fs [] h = refl
 no_item_is levels_left fs (mark CloseBrace ∷ xs) h = refl
 no_item_is levels_left fs _ h = cc
 
-module _ (levels_left : ℕ) (fs : List ReadFormula) (f : ReadFormula) (xs rest : List LentTerminal) (whole : Answer Terminal Items)
-    (step : (gs : List FormulaSyntax) →
-    item levels_left (open_items gs) (terminals_view xs) ≡ Some (Ok (item_last (gs ++ formula_syntax f ∷ []), terminals_view rest)))
-    (so_far : iterate (item levels_left) (open_items (map formula_syntax fs)) (terminals_view xs) ≡ whole) where
-  -- a formula was read
-  item_read : iterate (item levels_left) (item_last (map formula_syntax (fs ++ f ∷ []))) (terminals_view rest) ≡ whole
-  item_read = rw map-append
-      (next_step (item_shrinks levels_left) (open_items (map formula_syntax fs)) (terminals_view xs)
-      (item_last (map formula_syntax fs ++ formula_syntax f ∷ [])) (terminals_view rest) (step (map formula_syntax fs)) ∙ so_far)
+-- a formula and its semicolon were read
+pub items_more : (levels_left : ℕ) (fs : List ReadFormula) (f : ReadFormula) (xs rest after : List Terminal) →
+    item levels_left (open_items (map formula_syntax fs)) xs ≡ Some (Ok (item_last (map formula_syntax fs ++ formula_syntax f ∷ []), rest)) →
+    item levels_left (item_last (map formula_syntax fs ++ formula_syntax f ∷ [])) rest
+    ≡ Some (Ok (open_items (map formula_syntax fs ++ formula_syntax f ∷ []), after)) →
+    iterate (item levels_left) (open_items (map formula_syntax (fs ++ f ∷ []))) after ≡ iterate (item levels_left) (open_items (map formula_syntax fs)) xs
+items_more levels_left fs f xs rest after step semicolon =
+    rw map-append (next_step (item_shrinks levels_left) _ rest _ after semicolon ∙ next_step (item_shrinks levels_left) _ xs _ rest step)
 
-  -- and its semicolon
-  pub items_more : (after : List LentTerminal) →
-      ((n : ℕ) (gs : List FormulaSyntax) → item n (item_last gs) (terminals_view rest) ≡ Some (Ok (open_items gs, terminals_view after))) →
-      iterate (item levels_left) (open_items (map formula_syntax (fs ++ f ∷ []))) (terminals_view after) ≡ whole
-  items_more after h =
-      next_step (item_shrinks levels_left) _ (terminals_view rest) _ (terminals_view after) (h levels_left (map formula_syntax (fs ++ f ∷ []))) ∙ item_read
+-- or it was the last
+pub items_last : (levels_left : ℕ) (fs : List ReadFormula) (f : ReadFormula) (xs rest : List Terminal) →
+    item levels_left (open_items (map formula_syntax fs)) xs ≡ Some (Ok (item_last (map formula_syntax fs ++ formula_syntax f ∷ []), rest)) →
+    item levels_left (item_last (map formula_syntax fs ++ formula_syntax f ∷ [])) rest ≡ None →
+    iterate (item levels_left) (open_items (map formula_syntax fs)) xs ≡ Ok (item_last (map formula_syntax (fs ++ f ∷ [])), rest)
+items_last levels_left fs f xs rest step none =
+    rw map-append (sym (next_step (item_shrinks levels_left) _ xs _ rest step) ∙ no_step (item_shrinks levels_left) _ rest none)
 
-  -- or it was the last
-  pub items_last : ((n : ℕ) (gs : List FormulaSyntax) → item n (item_last gs) (terminals_view rest) ≡ None) →
-      map_read items_of whole ≡ Ok (map formula_syntax (fs ++ f ∷ []), terminals_view rest)
-  items_last h = ap (map_read items_of) (sym item_read ∙ no_step (item_shrinks levels_left) _ (terminals_view rest) (h levels_left _))
+-- no item is left
+pub items_end : (levels_left : ℕ) (gs : List FormulaSyntax) (xs : List Terminal) → item levels_left (open_items gs) xs ≡ None →
+    iterate (item levels_left) (open_items gs) xs ≡ Ok (open_items gs, xs)
+items_end levels_left gs xs none = no_step (item_shrinks levels_left) (open_items gs) xs none
 
-  -- it takes terminals, and so does a semicolon
-  pub items_shorten : (after : List LentTerminal) → length after < length rest → length after < length xs
-  items_shorten after few =
-      let less = seen_shorter xs rest (item_shrinks levels_left (open_items []) (terminals_view xs) _ (terminals_view rest) (step [])) in
-      omega (arith, less, few)
+-- an item has a fault
+pub items_fault : (levels_left : ℕ) (gs : List FormulaSyntax) (xs ys : List Terminal) (fault : ReadFault) →
+    HasFaultOfMember (item levels_left (open_items gs) xs) fault →
+    iterate (item levels_left) (open_items gs) xs ≡ iterate (item levels_left) (open_items []) ys →
+    HasSyntaxFault (map_read items_of (iterate (item levels_left) (open_items []) ys)) fault
+items_fault levels_left gs xs ys fault h e = map_fault items_of _ fault (loop_fault (item_shrinks levels_left) (open_items gs) xs _ fault e h)
+
+-- a formula takes terminals, and so does a semicolon
+pub items_shorten : (levels_left : ℕ) (gs : List FormulaSyntax) (t : Items) (xs rest after : List LentTerminal) →
+    item levels_left (open_items gs) (terminals_view xs) ≡ Some (Ok (t, terminals_view rest)) → length after < length rest → length after < length xs
+items_shorten levels_left gs t xs rest after step few =
+    let less = seen_shorter xs rest (item_shrinks levels_left (open_items gs) (terminals_view xs) t (terminals_view rest) step) in
+    omega (arith, less, few)
