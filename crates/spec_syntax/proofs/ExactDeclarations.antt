@@ -13,7 +13,8 @@ use Rattle.token_readers.proofs.WholeTexts.{ends_members, whole_derives}
 use Rattle.token_readers.proofs.Taken.{Never}
 use Rattle.token_readers.proofs.Lists.{AreAll, none, some, Member, stepping, members_exact, each_member}
 use Rattle.spec_syntax.specs.declared.syntax.Closer.TheVariants.{Equals as EqualsAfter, Semicolon as SemicolonAfter}
-use Rattle.spec_syntax.specs.Syntax.{Terminal, free, mark, FormulaSyntax, bare, SectionSyntax, Definition, Declaration, the_section, the_definition}
+use Rattle.spec_syntax.specs.Syntax.{Terminal, free, mark, FormulaSyntax, bare, SectionSyntax, Definition, Declaration, the_section}
+use Rattle.spec_syntax.specs.Syntax.{the_definition}
 use Rattle.spec_syntax.specs.Grammar.{IsFormula}
 use Rattle.spec_syntax.specs.Grammar.{IsSection, IsDefinition, equation, AreDeclarations, no_declaration, a_section, a_definition}
 use Rattle.spec_syntax.specs.Reading.{lower, side, section_at, name_at, parameters, body}
@@ -94,7 +95,8 @@ IsAfterName x = IsThen IsParameters (WithBody x)
 definition_exact : (levels_left : ℕ) (x : List ℕ) → Exact (IsAfterName x) Any levels_left (definition levels_left x)
 unfolding definition parameters body
 definition_exact levels_left x =
-    exact_then (record { lift = lift_closed (mark Equals) (AreAll IsName) more_names; default = some_body }) (λ r ps xs d h rest b. before_any (xs ++ rest))
+    exact_then (record { lift = lift_closed (mark Equals) (AreAll IsName) more_names; default = some_body })
+    (λ r ps xs d h rest b. before_any (xs ++ rest))
     (closed_exact (tells EqualsAfter) refl more_names (members_exact (name_member levels_left)))
     (λ ps. exact_map (definition_made x ps) (λ r xs a h. (a, h, refl)) (λ r xs d h. h)
     (closed_formula SemicolonAfter (omega arith) (formula_exact levels_left (lower levels_left) (below_exact levels_left))))
@@ -157,7 +159,8 @@ declaration_exact levels_left =
           turn_as the_section (section_at levels_left) (λ rest. refl) (λ y h. h) section_declares (λ r ys p h. h)
           (turn_of (section_exact levels_left) _)
 
-declaration_member : (levels_left : ℕ) → Member IsDeclaration Any Never levels_left (declaration levels_left) (λ x. true) (declaration_at levels_left)
+declaration_member : (levels_left : ℕ) → Member IsDeclaration Any Never levels_left (declaration levels_left) (λ x. true)
+    (declaration_at levels_left)
 unfolding declaration
 declaration_member levels_left =
     each_member refl (λ x rest. refl) (λ r p h. section_case h.1) (λ r xs p h. lift r xs p h) (declaration_exact levels_left) where
@@ -170,7 +173,8 @@ declaration_shrinks levels_left = step_shrinks (stepping (declaration_member lev
 
 -- ---- whole texts
 
-with_first : (r : ℕ) (f g : List Terminal) (p : Declaration) (ps : List Declaration) → IsDeclaration r f p → IsText r g ps → IsText r (f ++ g) (p ∷ ps)
+with_first : (r : ℕ) (f g : List Terminal) (p : Declaration) (ps : List Declaration) → IsDeclaration r f p → IsText r g ps →
+    IsText r (f ++ g) (p ∷ ps)
 with_first r (free x ∷ ys) g p ps h k = rw h.2 (k.0, a_definition (is_definition x r ys h.0 h.1) k.1)
 with_first r _ g p ps h k = rw h.2 (_, a_section h.1 k.1)
 
@@ -186,15 +190,18 @@ all_declarations (a_definition h k) = some (definition_declares h) (all_declarat
 -- a whole text is read exactly
 pub declarations_exact : (levels_left : ℕ) → Exact IsText (λ x. ⊥) levels_left (declarations levels_left)
 unfolding declarations
-declarations_exact levels_left = exact_as text_of (λ r xs ds h. all_declarations h.1) (λ x h. h) (members_exact (declaration_member levels_left))
+declarations_exact levels_left =
+    exact_as text_of (λ r xs ds h. all_declarations h.1) (λ x h. h) (members_exact (declaration_member levels_left))
 
 -- what is read as a whole text derives so, and nothing is left
-pub whole_text : (levels_left : ℕ) (xs : List Terminal) (ds : List Declaration) (rest : List Terminal) → declarations levels_left xs ≡ Ok (ds, rest) →
+pub whole_text : (levels_left : ℕ) (xs : List Terminal) (ds : List Declaration) (rest : List Terminal) →
+    declarations levels_left xs ≡ Ok (ds, rest) →
     (rest ≡ []) × IsText levels_left xs ds
 unfolding declarations
 whole_text levels_left = whole_derives (declarations_exact levels_left) (ends_members (declaration_member levels_left))
 
-pub declarations_derive : (levels_left : ℕ) (xs : List Terminal) (ds : List Declaration) (rest : List Terminal) → declarations levels_left xs ≡ Ok (ds, rest) →
+pub declarations_derive : (levels_left : ℕ) (xs : List Terminal) (ds : List Declaration) (rest : List Terminal) →
+    declarations levels_left xs ≡ Ok (ds, rest) →
     IsText levels_left xs ds
 declarations_derive levels_left xs ds rest h = (whole_text levels_left xs ds rest h).1
 

@@ -46,9 +46,11 @@ record Tail (low high levels_left : ℕ) (Is : FormulaSyntax → Grammar Termina
   pub lift : (a : FormulaSyntax) (r : ℕ) (xs : List Terminal) (f : FormulaSyntax) → Is a r xs f → Is a (suc (suc r)) xs f
   pub none : (a : FormulaSyntax) (r : ℕ) → Is a r [] a
 
-module _ {low high levels_left : ℕ} {Is : FormulaSyntax → Grammar Terminal FormulaSyntax} {reader : FormulaSyntax → Reader Terminal FormulaSyntax}
+module _ {low high levels_left : ℕ} {Is : FormulaSyntax → Grammar Terminal FormulaSyntax}
+    {reader : FormulaSyntax → Reader Terminal FormulaSyntax}
     (t : Tail low high levels_left Is reader) where
-  follow : (a : FormulaSyntax) (r : ℕ) (xs : List Terminal) (f : FormulaSyntax) → Is a r xs f → (n : ℕ) → n ≤ high → (rest : List Terminal) →
+  follow : (a : FormulaSyntax) (r : ℕ) (xs : List Terminal) (f : FormulaSyntax) → Is a r xs f → (n : ℕ) → n ≤ high →
+      (rest : List Terminal) →
       Before (Below_tie n) rest → Before (Below_tie high) (xs ++ rest)
   follow a r xs f h n few rest b =
       before_join (Below_tie high) xs rest (before_map (Between low high) (Below_tie high) (λ x e. e.1) xs (t.ties a r xs f h))
@@ -57,21 +59,25 @@ module _ {low high levels_left : ℕ} {Is : FormulaSyntax → Grammar Terminal F
   -- a form and what may follow it
   then_tail : {First : Grammar Terminal FormulaSyntax} {first : Reader Terminal FormulaSyntax} →
       ((r : ℕ) (xs : List Terminal) (f : FormulaSyntax) → First r xs f → First (suc (suc r)) xs f) →
-      Exact First (Below_tie high) levels_left first → Exact (IsThen First Is) (Below_tie low) levels_left (λ xs. and_then (first xs) reader)
+      Exact First (Below_tie high) levels_left first →
+      Exact (IsThen First Is) (Below_tie low) levels_left (λ xs. and_then (first xs) reader)
   then_tail lift k =
       exact_then (record { lift = lift; default = λ r c. record { ending = []; value = c; derives = t.none c r } })
       (λ r c xs f h rest b. follow c r xs f h low t.ordered rest b) k t.exact
 
 -- what may follow, and then what may follow that
-tail_then : {low middle high levels_left : ℕ} {A B : FormulaSyntax → Grammar Terminal FormulaSyntax} {f g : FormulaSyntax → Reader Terminal FormulaSyntax} →
+tail_then : {low middle high levels_left : ℕ} {A B : FormulaSyntax → Grammar Terminal FormulaSyntax}
+    {f g : FormulaSyntax → Reader Terminal FormulaSyntax} →
     Tail middle high levels_left A f → Tail low middle levels_left B g →
     Tail low high levels_left (λ a. IsThen (A a) B) (λ a xs. and_then (f a xs) g)
 tail_then {low = low} {middle = middle} {high = high} {A = A} {B = B} s t = record {
   ordered = omega (arith, s.ordered, t.ordered);
   exact = λ a. then_tail t (s.lift a) (s.exact a);
   ties = λ a r xs f h. rw h.split (before_join (Between low high) h.front h.tail
-      (before_map (Between middle high) (Between low high) (λ x e. (omega (arith, e, t.ordered), e.1)) h.front (s.ties a r h.front h.value h.first))
-      (before_map (Between low middle) (Between low high) (λ x e. (e.0, omega (arith, e, s.ordered))) h.tail (t.ties h.value r h.tail f h.second)));
+      (before_map (Between middle high) (Between low high) (λ x e. (omega (arith, e, t.ordered), e.1)) h.front
+      (s.ties a r h.front h.value h.first))
+      (before_map (Between low middle) (Between low high) (λ x e. (e.0, omega (arith, e, s.ordered))) h.tail
+      (t.ties h.value r h.tail f h.second)));
   lift = λ a. lift_then (A a) B (s.lift a) t.lift;
   none = λ a r. record { value = a; front = []; tail = []; split = refl; first = s.none a r; second = t.none a r };
 }
@@ -101,8 +107,10 @@ module _ {op : ManyOperator} {IsOperand : Grammar Terminal FormulaSyntax} {sign 
       (further op operand) (is_sign op) (after (is_sign op) operand)
   unfolding further further_from
   further_member =
-      marked_member (is_sign op) sign k.tells.yes (k.begins levels_left) k.lift refl (λ x rest e. ap (λ here. further_from here operand rest) e)
-      (λ x rest e. ap (λ here. further_from here operand rest) e) (λ x e. omega (arith, sign_ties x e)) (λ x e. stops x e (is_sign op x) refl)
+      marked_member (is_sign op) sign k.tells.yes (k.begins levels_left) k.lift refl
+      (λ x rest e. ap (λ here. further_from here operand rest) e)
+      (λ x rest e. ap (λ here. further_from here operand rest) e) (λ x e. omega (arith, sign_ties x e))
+      (λ x e. stops x e (is_sign op x) refl)
       (λ x e. omega (arith, e)) exact where
         stops : (x : Terminal) → tie x < n → (here : Bool) → is_sign op x ≡ here → is_sign op x ≡ false
         stops x e true h = absurd (omega (arith, e, sign_ties x h))
@@ -122,7 +130,8 @@ module _ {op : ManyOperator} {IsOperand : Grammar Terminal FormulaSyntax} {sign 
     ties (some {f = []} h m) = absurd h
     ties (some {f = x ∷ f} h m) = (omega (arith, sign_ties x h.0), omega (arith, sign_ties x h.0))
 
-    lift : {r : ℕ} {xs : List Terminal} {fs : List FormulaSyntax} → AreFurther op IsOperand r xs fs → AreFurther op IsOperand (suc (suc r)) xs fs
+    lift : {r : ℕ} {xs : List Terminal} {fs : List FormulaSyntax} → AreFurther op IsOperand r xs fs →
+        AreFurther op IsOperand (suc (suc r)) xs fs
     lift none = none
     lift (some {f = []} h m) = absurd h
     lift {r = r} (some {f = x ∷ f} {v = v} h m) = some {f = x ∷ f} (h.0, k.lift r f v h.1) (lift m)
@@ -169,16 +178,20 @@ all_disjuncts no_disjunct = none
 all_disjuncts (more_disjuncts {xs = xs} h k) = some {f = mark Or ∷ xs} (refl, h) (all_disjuncts k)
 
 and_same : Same IsAnd (IsThen IsPrefix AndTail)
-and_same = record { to = to; from = λ r xs f h. rw (h.split, h.second.2) (conjunction h.first (conjuncts_of r h.tail h.second.0 h.second.1)) } where
-  to : (r : ℕ) (xs : List Terminal) (f : FormulaSyntax) → IsAnd r xs f → IsThen IsPrefix AndTail r xs f
-  to r xs f (conjunction {xs = front} {ys = tail} {a = a} {fs = fs} h k) =
-      record { value = a; front = front; tail = tail; split = refl; first = h; second = (fs, all_conjuncts k, refl) }
+and_same =
+    record { to = to; from = λ r xs f h. rw (h.split, h.second.2) (conjunction h.first (conjuncts_of r h.tail h.second.0 h.second.1)) }
+  where
+    to : (r : ℕ) (xs : List Terminal) (f : FormulaSyntax) → IsAnd r xs f → IsThen IsPrefix AndTail r xs f
+    to r xs f (conjunction {xs = front} {ys = tail} {a = a} {fs = fs} h k) =
+        record { value = a; front = front; tail = tail; split = refl; first = h; second = (fs, all_conjuncts k, refl) }
 
 or_same : Same IsOr (IsThen IsAnd OrTail)
-or_same = record { to = to; from = λ r xs f h. rw (h.split, h.second.2) (disjunction h.first (disjuncts_of r h.tail h.second.0 h.second.1)) } where
-  to : (r : ℕ) (xs : List Terminal) (f : FormulaSyntax) → IsOr r xs f → IsThen IsAnd OrTail r xs f
-  to r xs f (disjunction {xs = front} {ys = tail} {a = a} {fs = fs} h k) =
-      record { value = a; front = front; tail = tail; split = refl; first = h; second = (fs, all_disjuncts k, refl) }
+or_same =
+    record { to = to; from = λ r xs f h. rw (h.split, h.second.2) (disjunction h.first (disjuncts_of r h.tail h.second.0 h.second.1)) }
+  where
+    to : (r : ℕ) (xs : List Terminal) (f : FormulaSyntax) → IsOr r xs f → IsThen IsAnd OrTail r xs f
+    to r xs f (disjunction {xs = front} {ys = tail} {a = a} {fs = fs} h k) =
+        record { value = a; front = front; tail = tail; split = refl; first = h; second = (fs, all_disjuncts k, refl) }
 
 -- ---- the right sides of arrows
 
@@ -221,7 +234,8 @@ both_sides Double r xs ys a b h k = iff h k
 
 right_same : (kind : ArrowKind) → Same (IsRight kind) (IsThen (IsLeft kind) (ArrowTail kind))
 right_same kind = record { to = to kind; from = λ r xs f h. from xs h.front h.first h.second h.split } where
-  to : (kind : ArrowKind) (r : ℕ) (xs : List Terminal) (f : FormulaSyntax) → IsRight kind r xs f → IsThen (IsLeft kind) (ArrowTail kind) r xs f
+  to : (kind : ArrowKind) (r : ℕ) (xs : List Terminal) (f : FormulaSyntax) → IsRight kind r xs f →
+      IsThen (IsLeft kind) (ArrowTail kind) r xs f
   to Single r xs f (no_imp h) = record { value = f; front = xs; tail = []; split = sym (append-nil xs); first = h; second = alone }
   to Double r xs f (no_iff h) = record { value = f; front = xs; tail = []; split = sym (append-nil xs); first = h; second = alone }
   to Single r xs f (imp {xs = front} {ys = ys} {a = a} h k) =
@@ -229,7 +243,8 @@ right_same kind = record { to = to kind; from = λ r xs f h. from xs h.front h.f
   to Double r xs f (iff {xs = front} {ys = ys} {a = a} h k) =
       record { value = a; front = front; tail = mark BothArrow ∷ ys; split = refl; first = h; second = with_right k }
 
-  from : {r : ℕ} {a f : FormulaSyntax} {tail : List Terminal} (xs front : List Terminal) → IsLeft kind r front a → ArrowTail kind a r tail f →
+  from : {r : ℕ} {a f : FormulaSyntax} {tail : List Terminal} (xs front : List Terminal) → IsLeft kind r front a →
+      ArrowTail kind a r tail f →
       xs ≡ front ++ tail → IsRight kind r xs f
   from xs front first alone split = rw (split, append-nil) (left_alone kind _ _ _ first)
   from {r = zero} xs front first (with_right h) split = absurd h
@@ -261,8 +276,11 @@ module _ (levels_left : ℕ) (low : Option Level) (b : Below LevelExact levels_l
   unfolding arrow_after arrow_from
   arrow_tail kind = record {
     ordered = omega arith;
-    exact = λ a. tail_exact (arrow_tells kind) (between (operator_of kind) a) {Holds = LevelExact} a low (λ l. l.right kind) (λ k l h. h.right kind) b
-        refl (λ x rest e. ap (λ here. arrow_from low kind here a (x ∷ rest)) e) (λ x rest e. ap (λ here. arrow_from low kind here a (x ∷ rest)) e)
+    exact =
+        λ a. tail_exact (arrow_tells kind) (between (operator_of kind) a) {Holds = LevelExact} a low (λ l. l.right kind)
+        (λ k l h. h.right kind) b
+        refl (λ x rest e. ap (λ here. arrow_from low kind here a (x ∷ rest)) e)
+        (λ x rest e. ap (λ here. arrow_from low kind here a (x ∷ rest)) e)
         (no_arrow kind) (λ x h. h) (a_right kind (suc levels_left));
     ties = λ a r xs f h. ties kind h;
     lift = λ a r xs f h. lift h;
@@ -299,7 +317,8 @@ module _ (levels_left : ℕ) (low : Option Level) (b : Below LevelExact levels_l
 
 -- what follows the first prefix of a formula
 data FormulaTail (a : FormulaSyntax) (r : ℕ) : List Terminal → FormulaSyntax → Type 0 where
-  temporal_tail : {ys : List Terminal} {g : FormulaSyntax} (op : BinaryOperator) (x : Terminal) → temporal_of x ≡ Some op → IsPrefix r ys g →
+  temporal_tail : {ys : List Terminal} {g : FormulaSyntax} (op : BinaryOperator) (x : Terminal) → temporal_of x ≡ Some op →
+      IsPrefix r ys g →
       FormulaTail a r (x ∷ ys) (between op a g)
   chained_tail : {xs : List Terminal} {f : FormulaSyntax} → IffAfter a r xs f → FormulaTail a r xs f
 
@@ -322,7 +341,15 @@ formula_same = record { to = to; from = λ r xs f h. from xs h.front h.first h.s
       record { value = a; front = front; tail = t ∷ ys; split = refl; first = h; second = temporal_tail op t is k }
   to r xs f (chained h) =
       let parts = iff_same.to r xs f h in
-      record { value = parts.value; front = parts.front; tail = parts.tail; split = parts.split; first = parts.first; second = chained_tail parts.second }
+      record {
+        value = parts.value;
+        front = parts.front;
+        tail = parts.tail;
+        split = parts.split;
+        first = parts.first;
+        second = chained_tail
+            parts.second;
+      }
 
   from : {r : ℕ} {a f : FormulaSyntax} {tail : List Terminal} (xs front : List Terminal) → IsPrefix r front a → FormulaTail a r tail f →
       xs ≡ front ++ tail → IsFormula r xs f
@@ -330,7 +357,8 @@ formula_same = record { to = to; from = λ r xs f h. from xs h.front h.first h.s
   from {r = r} {a = a} {f = f} {tail = tail} xs front first (chained_tail h) split =
       chained (iff_same.from r xs f (record { value = a; front = front; tail = tail; split = split; first = first; second = h }))
 
-pub formula_exact : (levels_left : ℕ) (low : Option Level) → Below LevelExact levels_left low → Exact IsFormula (Below_tie 1) levels_left (formula_with low)
+pub formula_exact : (levels_left : ℕ) (low : Option Level) → Below LevelExact levels_left low →
+    Exact IsFormula (Below_tie 1) levels_left (formula_with low)
 unfolding formula_with formula_after formula_from
 formula_exact levels_left low b =
     exact_same formula_same (exact_then (record {
@@ -343,7 +371,8 @@ formula_exact levels_left low b =
       iff : Tail 2 6 levels_left IffAfter (iff_after low)
       iff = iff_tail levels_left low b
 
-      follows : {r : ℕ} {c f : FormulaSyntax} {xs : List Terminal} → FormulaTail c r xs f → (rest : List Terminal) → Before (Below_tie 1) rest →
+      follows : {r : ℕ} {c f : FormulaSyntax} {xs : List Terminal} → FormulaTail c r xs f → (rest : List Terminal) →
+          Before (Below_tie 1) rest →
           Before (Below_tie 6) (xs ++ rest)
       follows (temporal_tail op x is h) rest k = temporal_ties x op is
       follows {r = r} {c = c} {f = f} {xs = xs} (chained_tail h) rest k = follow iff c r xs f h 1 (omega arith) rest k
@@ -369,10 +398,12 @@ formula_exact levels_left low b =
       by : (c : FormulaSyntax) (x : Terminal) (found : Option BinaryOperator) → temporal_of x ≡ found →
           Turn (FormulaTail c) (Below_tie 1) levels_left (formula_after low c) x
       by c x None e =
-          turn_as (λ f. f) (iff_after low c) (λ rest. as_from c x None e rest ∙ sym (map_same _)) (λ y h. omega (arith, h)) (λ r xs f. chained_tail)
+          turn_as (λ f. f) (iff_after low c) (λ rest. as_from c x None e rest ∙ sym (map_same _)) (λ y h. omega (arith, h))
+          (λ r xs f. chained_tail)
           (λ r ys f. further e) (turn_of (iff.exact c) x)
       by c x (Some op) e =
-          turn_takes (between op c) (prefix_with low) (as_from c x (Some op) e) (λ y h. omega (arith, h)) (λ r ys f h. temporal_tail op x e h)
+          turn_takes (between op c) (prefix_with low) (as_from c x (Some op) e) (λ y h. omega (arith, h))
+          (λ r ys f h. temporal_tail op x e h)
           (λ r ys f. operand e) (prefix_exact levels_left low b)
 
 -- ---- all levels

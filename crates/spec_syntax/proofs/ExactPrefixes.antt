@@ -6,7 +6,8 @@ use Rattle.token_readers.specs.Readers.{Reader, map_read, after, closed_by}
 use Rattle.token_readers.specs.Exact.{Grammar, Begins, Exact}
 use Rattle.token_readers.proofs.Runs.{map_same, exact_as}
 use Rattle.token_readers.proofs.Then.{Any, IsClosed, closed_exact}
-use Rattle.token_readers.proofs.Terminals.{Turn, by_first, end_wrong, turn_of, turn_wrong, turn_alone, turn_takes, turn_as, IsAfter, after_exact}
+use Rattle.token_readers.proofs.Terminals.{Turn, by_first, end_wrong, turn_of, turn_wrong, turn_alone, turn_takes, turn_as, IsAfter}
+use Rattle.token_readers.proofs.Terminals.{after_exact}
 use Rattle.token_readers.proofs.Levels.{Below, Up, turn_below}
 use Rattle.spec_syntax.specs.declared.syntax.Word.TheVariants.{True, False}
 use Rattle.tsl_terms.specs.declared.operator.UnaryOperator.{UnaryOperator}
@@ -14,7 +15,8 @@ use Rattle.spec_syntax.specs.declared.syntax.Closer.{Closer}
 use Rattle.spec_syntax.specs.declared.syntax.Closer.TheVariants.{Round, Square}
 use Rattle.spec_syntax.specs.declared.syntax.ArrowKind.{ArrowKind}
 use Rattle.spec_syntax.specs.declared.syntax.ArrowKind.TheVariants.{Single, Double}
-use Rattle.spec_syntax.specs.Syntax.{Terminal, free, word, mark, TermSyntax, alone, FormulaSyntax, truth, falsehood, bare, updated, grouped, under}
+use Rattle.spec_syntax.specs.Syntax.{Terminal, free, word, mark, TermSyntax, alone, FormulaSyntax, truth, falsehood, bare, updated, grouped}
+use Rattle.spec_syntax.specs.Syntax.{under}
 use Rattle.spec_syntax.specs.Grammar.{unary_of, IsTerm, signal, IsFormula, chain as chained, IsIff, no_iff}
 use Rattle.spec_syntax.specs.Grammar.{IsImp, no_imp, IsOr, disjunction, no_disjunct, IsAnd, conjunction}
 use Rattle.spec_syntax.specs.Grammar.{no_conjunct, IsPrefix, prefix, atom, IsAtom, true_atom, false_atom}
@@ -161,7 +163,8 @@ case_atom r (mark OpenSquare ∷ ys) f h = atom_of_update r ys f h
 case_atom r (free p ∷ ys) f h = rw h.2 (atom_of_name r p ys h.0 h.1)
 case_atom r _ f h = absurd h
 
-atom_exact : (levels_left : ℕ) (low : Option Level) → Below LevelExact levels_left low → Exact IsAtom (Below_tie 6) levels_left (atom_with low)
+atom_exact : (levels_left : ℕ) (low : Option Level) → Below LevelExact levels_left low →
+    Exact IsAtom (Below_tie 6) levels_left (atom_with low)
 unfolding atom_with
 atom_exact levels_left low b =
     exact_as case_atom (λ r xs f h. atom_case h) (λ x h. h) (by_first (end_wrong refl some_atom (λ r f h. h)) turn) where
@@ -169,13 +172,15 @@ atom_exact levels_left low b =
       some_atom = record { ending = a ∷ []; value = bare (codes "a"); derives = (None, nothing, refl) }
 
       low_formula : Begins (IsClosed (mark CloseRound) IsFormula (suc levels_left)) []
-      low_formula = record { ending = a ∷ mark CloseRound ∷ []; value = bare (codes "a"); derives = (a ∷ [], refl, a_formula (suc levels_left)) }
+      low_formula =
+          record { ending = a ∷ mark CloseRound ∷ []; value = bare (codes "a"); derives = (a ∷ [], refl, a_formula (suc levels_left)) }
 
       turn : (x : Terminal) → Turn AtomCase (Below_tie 6) levels_left (atom_with low) x
       turn (word True) = turn_alone truth (λ rest. refl) (λ r. (refl, refl)) (λ r ys f h. h)
       turn (word False) = turn_alone falsehood (λ rest. refl) (λ r. (refl, refl)) (λ r ys f h. h)
       turn (mark OpenRound) =
-          turn_below {Holds = LevelExact} grouped low bracketed_formula (λ k l h. closed_formula Round (omega arith) h.formula) b (λ rest. refl)
+          turn_below {Holds = LevelExact} grouped low bracketed_formula (λ k l h. closed_formula Round (omega arith) h.formula) b
+          (λ rest. refl)
           (λ y h. tt) some_atom low_formula (λ r ys f h. (f, h, refl)) (λ r ys f h. h)
       turn (mark OpenSquare) =
           turn_takes (λ f. f) (update_with low) (λ rest. sym (map_same (update_with low rest))) (λ y h. tt) (λ r ys f h. h)
@@ -213,7 +218,8 @@ case_prefix r (x ∷ ys) f h = by (unary_of x) refl r h where
   by (Some op) e zero h = absurd h.1
   by (Some op) e (suc r) h = rw h.2 (prefix op x e h.1)
 
-pub prefix_exact : (levels_left : ℕ) (low : Option Level) → Below LevelExact levels_left low → Exact IsPrefix (Below_tie 6) levels_left (prefix_with low)
+pub prefix_exact : (levels_left : ℕ) (low : Option Level) → Below LevelExact levels_left low →
+    Exact IsPrefix (Below_tie 6) levels_left (prefix_with low)
 unfolding prefix_with prefix_from atom_with
 prefix_exact levels_left low b =
     exact_as case_prefix (λ r xs f h. prefix_case h) (λ x h. h)
@@ -225,10 +231,12 @@ prefix_exact levels_left low b =
           prefix_with low (x ∷ rest) ≡ prefix_from low found (x ∷ rest)
       as_from x found e rest = ap (λ o. prefix_from low o (x ∷ rest)) e
 
-      by : (x : Terminal) (found : Option UnaryOperator) → unary_of x ≡ found → Turn PrefixCase (Below_tie 6) levels_left (prefix_with low) x
+      by : (x : Terminal) (found : Option UnaryOperator) → unary_of x ≡ found →
+          Turn PrefixCase (Below_tie 6) levels_left (prefix_with low) x
       by x None e =
           turn_as (λ f. f) (atom_with low) (λ rest. as_from x None e rest ∙ sym (map_same (atom_with low (x ∷ rest)))) (λ y h. h)
           (λ r ys f h. prefix_of_atom h) (λ r ys f h. (f, rw e at h, refl)) (turn_of (atom_exact levels_left low b) x)
       by x (Some op) e =
-          turn_below {Holds = LevelExact} (under op) low (λ l. l.prefix) (λ k l h. h.prefix) b (as_from x (Some op) e) (λ y h. h) some_prefix
+          turn_below {Holds = LevelExact} (under op) low (λ l. l.prefix) (λ k l h. h.prefix) b (as_from x (Some op) e)
+          (λ y h. h) some_prefix
           (a_prefix (suc levels_left)) (λ r ys f h. rw e (f, h, refl)) (λ r ys f h. rw e at h)

@@ -87,7 +87,8 @@ item_stepping levels_left = record {
   lift (item_last fs) r (mark Semicolon ∷ ys) t h = h
   lift (item_last fs) r _ t h = absurd h
 
-  loose : (fs : List FormulaSyntax) (r : ℕ) (x : Terminal) (ys : List Terminal) (u : Items) → IsItemStep (item_last fs) r (x ∷ ys) u → tie x < 1
+  loose : (fs : List FormulaSyntax) (r : ℕ) (x : Terminal) (ys : List Terminal) (u : Items) → IsItemStep (item_last fs) r (x ∷ ys) u →
+      tie x < 1
   loose fs r (mark Semicolon) ys u k = omega arith
   loose fs r _ ys u k = absurd k
 
@@ -163,7 +164,8 @@ formulas_exact levels_left = exact_map items_of to from (iterate_exact (item_ste
 
 -- the items between braces, a section after its first word, and a section
 abbrev pub ItemsCase : Part → Grammar Terminal SectionSyntax
-ItemsCase part r (mark OpenBrace ∷ ys) s = (fs : List FormulaSyntax) × IsClosed (mark CloseBrace) AreItems r ys fs × (s ≡ section_made part fs)
+ItemsCase part r (mark OpenBrace ∷ ys) s =
+    (fs : List FormulaSyntax) × IsClosed (mark CloseBrace) AreItems r ys fs × (s ≡ section_made part fs)
 ItemsCase part r _ s = ⊥
 
 abbrev pub SideCase : Part → Part → Grammar Terminal SectionSyntax
@@ -185,22 +187,26 @@ unfolding items
 items_exact levels_left part = by_first (end_wrong refl (no_items levels_left part) (λ r s h. h)) turn where
   turn : (x : Terminal) → Turn (ItemsCase part) Any levels_left (items levels_left part) x
   turn (mark OpenBrace) =
-      turn_takes (section_made part) (closed_by is_close_brace (formulas levels_left)) (λ rest. refl) (λ y h. h) (λ r ys fs h. (fs, h, refl))
+      turn_takes (section_made part) (closed_by is_close_brace (formulas levels_left)) (λ rest. refl) (λ y h. h)
+      (λ r ys fs h. (fs, h, refl))
       (λ r ys s h. h) (closed_exact (tells Brace) refl (λ r xs fs h. items_more (items_more h)) (formulas_exact levels_left))
   turn _ = turn_wrong (λ rest. refl) (no_items levels_left part) (λ r ys s h. h)
 
-side_exact : (levels_left : ℕ) (assumed guaranteed : Part) → Exact (SideCase assumed guaranteed) Any levels_left (side levels_left assumed guaranteed)
+side_exact : (levels_left : ℕ) (assumed guaranteed : Part) →
+    Exact (SideCase assumed guaranteed) Any levels_left (side levels_left assumed guaranteed)
 unfolding side
 side_exact levels_left assumed guaranteed = by_first (end_wrong refl some_side (λ r s h. h)) turn where
   some_side : Begins (SideCase assumed guaranteed levels_left) []
-  some_side = let none = no_items levels_left assumed in record { ending = word Assume ∷ none.ending; value = none.value; derives = none.derives }
+  some_side =
+      let none = no_items levels_left assumed in record { ending = word Assume ∷ none.ending; value = none.value; derives = none.derives }
 
   turn : (x : Terminal) → Turn (SideCase assumed guaranteed) Any levels_left (side levels_left assumed guaranteed) x
   turn (word Assume) =
       turn_takes (λ s. s) (items levels_left assumed) (λ rest. sym (map_same (items levels_left assumed rest))) (λ y h. h) (λ r ys s h. h)
       (λ r ys s h. (s, h, refl)) (items_exact levels_left assumed)
   turn (word Guarantee) =
-      turn_takes (λ s. s) (items levels_left guaranteed) (λ rest. sym (map_same (items levels_left guaranteed rest))) (λ y h. h) (λ r ys s h. h)
+      turn_takes (λ s. s) (items levels_left guaranteed) (λ rest. sym (map_same (items levels_left guaranteed rest))) (λ y h. h)
+      (λ r ys s h. h)
       (λ r ys s h. (s, h, refl)) (items_exact levels_left guaranteed)
   turn _ = turn_wrong (λ rest. refl) some_side (λ r ys s h. h)
 
@@ -223,7 +229,8 @@ section_at_exact levels_left = by_first (end_wrong refl some_section (λ r s h. 
 
   turn : (x : Terminal) → Turn SectionCase Any levels_left (section_at levels_left) x
   turn (word Always) =
-      turn_takes (λ s. s) (side levels_left AssumeAlways GuaranteeAlways) (after_word AssumeAlways GuaranteeAlways) (λ y h. h) (λ r ys s h. h)
+      turn_takes (λ s. s) (side levels_left AssumeAlways GuaranteeAlways) (after_word AssumeAlways GuaranteeAlways) (λ y h. h)
+      (λ r ys s h. h)
       (λ r ys s h. (s, h, refl))
       (side_exact levels_left AssumeAlways GuaranteeAlways)
   turn (word Initially) =
@@ -231,7 +238,8 @@ section_at_exact levels_left = by_first (end_wrong refl some_section (λ r s h. 
       (λ r ys s h. (s, h, refl))
       (side_exact levels_left AssumeFirst GuaranteeFirst)
   turn _ =
-      turn_as (λ s. s) (side levels_left AssumeFirst GuaranteeFirst) (λ rest. sym (map_same _)) (λ y h. h) as_section (λ r ys s h. (s, h, refl))
+      turn_as (λ s. s) (side levels_left AssumeFirst GuaranteeFirst) (λ rest. sym (map_same _)) (λ y h. h) as_section
+      (λ r ys s h. (s, h, refl))
       (turn_of (side_exact levels_left AssumeFirst GuaranteeFirst) _)
 
 pub section_case : {r : ℕ} {xs : List Terminal} {s : SectionSyntax} → IsSection r xs s → SectionCase r xs s
@@ -282,19 +290,23 @@ unfolding sections
 sections_exact levels_left = exact_as sections_of (λ r xs ss h. all_sections h) (λ x h. h) (members_exact (section_member levels_left))
 
 -- what derives as a whole text is read so
-pub sections_read : (levels_left : ℕ) (xs : List Terminal) (ss : List SectionSyntax) → AreSections levels_left xs ss → sections levels_left xs ≡ Ok (ss, [])
+pub sections_read : (levels_left : ℕ) (xs : List Terminal) (ss : List SectionSyntax) → AreSections levels_left xs ss →
+    sections levels_left xs ≡ Ok (ss, [])
 sections_read levels_left = reads_all (sections_exact levels_left) levels_left (omega arith)
 
 -- a text derives in one way
-pub one_tree : (levels_left : ℕ) (xs : List Terminal) (ss rs : List SectionSyntax) → AreSections levels_left xs ss → AreSections levels_left xs rs → ss ≡ rs
+pub one_tree : (levels_left : ℕ) (xs : List Terminal) (ss rs : List SectionSyntax) → AreSections levels_left xs ss →
+    AreSections levels_left xs rs → ss ≡ rs
 one_tree levels_left = one_value (sections_exact levels_left)
 
 -- what is a text is one with more levels
-pub more_room : (extra levels_left : ℕ) (xs : List Terminal) (ss : List SectionSyntax) → AreSections levels_left xs ss → AreSections (extra + levels_left) xs ss
+pub more_room : (extra levels_left : ℕ) (xs : List Terminal) (ss : List SectionSyntax) → AreSections levels_left xs ss →
+    AreSections (extra + levels_left) xs ss
 more_room extra levels_left = lifted (sections_exact (extra + levels_left)) levels_left (omega arith)
 
 -- what is read as a whole text derives so, and nothing is left
-pub sections_derive : (levels_left : ℕ) (xs : List Terminal) (ss : List SectionSyntax) (rest : List Terminal) → sections levels_left xs ≡ Ok (ss, rest) →
+pub sections_derive : (levels_left : ℕ) (xs : List Terminal) (ss : List SectionSyntax) (rest : List Terminal) →
+    sections levels_left xs ≡ Ok (ss, rest) →
     (rest ≡ []) × AreSections levels_left xs ss
 unfolding sections
 sections_derive levels_left = whole_derives (sections_exact levels_left) (ends_members (section_member levels_left))

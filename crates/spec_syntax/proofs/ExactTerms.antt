@@ -2,12 +2,14 @@
 use Rattle.std.proofs.Common.{◌≡◌, ℕ, zero, suc, ◌<◌, true, false, List, [], ◌∷◌, ◌++◌, refl, ap, sym, ◌∙◌, append_assoc, arith}
 use Rattle.std.proofs.lemmas.List.{append-nil}
 use Rattle.std.specs.Prelude.{Option, Some, None, codes}
-use Rattle.tsl_text.specs.declared.TokenKind.TheVariants.{OpenRound, CloseRound, CloseSquare, CloseBrace, And, Or, Arrow, BothArrow, Equals, Semicolon}
+use Rattle.tsl_text.specs.declared.TokenKind.TheVariants.{OpenRound, CloseRound, CloseSquare, CloseBrace, And, Or, Arrow, BothArrow, Equals}
+use Rattle.tsl_text.specs.declared.TokenKind.TheVariants.{Semicolon}
 use Rattle.token_readers.specs.Readers.{Reader, closed_by}
 use Rattle.token_readers.specs.Exact.{Grammar, Begins, Exact}
 use Rattle.token_readers.proofs.Runs.{exact_map, exact_as}
 use Rattle.token_readers.proofs.Then.{Any, Tells, IsClosed, lift_closed, closed_exact}
-use Rattle.token_readers.proofs.Terminals.{Turn, by_first, end_wrong, end_as, turn_of, turn_wrong, turn_deep, turn_alone, turn_takes, turn_as}
+use Rattle.token_readers.proofs.Terminals.{Turn, by_first, end_wrong, end_as, turn_of, turn_wrong, turn_deep, turn_alone, turn_takes}
+use Rattle.token_readers.proofs.Terminals.{turn_as}
 use Rattle.token_readers.proofs.Levels.{Below, Up, lift_up, exact_up, turn_below}
 use Rattle.token_readers.proofs.Iterates.{Steps, stop, more, At, stays, goes, Stepping, iterate_exact}
 use Rattle.token_readers.proofs.Lists.{AreAll, none, some}
@@ -68,7 +70,8 @@ lift_terms r xs t h = term_more (term_more h)
 
 -- a term and what closes it
 pub closed_term : (closer : Closer) → tie (closer_mark closer) < 6 → {levels_left : ℕ} {reader : Reader Terminal TermSyntax} →
-    Exact IsTerm (Below_tie 6) levels_left reader → Exact (IsClosed (closer_mark closer) IsTerm) Any levels_left (closed_by (closes closer) reader)
+    Exact IsTerm (Below_tie 6) levels_left reader →
+    Exact (IsClosed (closer_mark closer) IsTerm) Any levels_left (closed_by (closes closer) reader)
 closed_term closer ends = closed_exact (tells closer) ends lift_terms
 
 -- a term of the level below and its closing bracket
@@ -123,7 +126,12 @@ opened_exact zero None h = by_first (end_wrong refl (some_opened 0) (λ r o e. n
       let in_two = grouped_term (alone (codes "a")) in
       let ending = a ∷ mark CloseRound ∷ mark CloseRound ∷ [] in
       turn_deep (λ rest. refl) (some_opened 0)
-      (record { ending = ending; value = Some in_two; derives = (in_two, (in_brackets (a ∷ []), refl, brackets (signal (codes "a"))), refl) })
+      (record {
+        ending = ending;
+        value = Some in_two;
+        derives =
+            (in_two, (in_brackets (a ∷ []), refl, brackets (signal (codes "a"))), refl);
+      })
       (λ r ys o e. needs_room r (mark OpenRound ∷ ys) e.0 e.1)
   turn (free x) =
       turn_deep (λ rest. refl) (some_opened 0)
@@ -185,7 +193,8 @@ stepping levels_left low b = record {
       (turn_below {Holds = TermExact} (with_term (term_last ts)) low bracketed_term brackets_exact b (λ rest. refl) (λ y e. e)
       (record { ending = a ∷ []; value = with_name (term_last ts) (codes "a"); derives = (refl, refl) }) (low_term levels_left)
       (λ r ys u e. (u, e, refl)) (λ r ys t e. e))
-  at s (free x) = goes (argument_wanted low s) (λ rest. refl) (turn_alone (with_name s x) (λ rest. refl) (λ r. (refl, refl)) (λ r ys t e. e))
+  at s (free x) =
+      goes (argument_wanted low s) (λ rest. refl) (turn_alone (with_name s x) (λ rest. refl) (λ r. (refl, refl)) (λ r ys t e. e))
   at s (mark OpenRound) = goes (argument_wanted low s) (λ rest. refl)
       (turn_takes (λ o. with_brackets o s) (opened low) (λ rest. refl) (λ y e. e) (λ r ys o e. (o, e, refl)) (λ r ys t e. e)
       (opened_exact levels_left low b))
@@ -337,7 +346,8 @@ steps_after_name r xs o (some_arguments {t = t} {ts = ts} h) =
     let e = encode r fresh tt xs (t ∷ ts) (all_arguments h) in
     (e.0, e.1, some_complete e.0 t ts e.2 e.3)
 
-pub after_name_exact : (levels_left : ℕ) (low : Option Level) → Below TermExact levels_left low → Exact AreAfterName (Below_tie 6) levels_left (after_name low)
+pub after_name_exact : (levels_left : ℕ) (low : Option Level) → Below TermExact levels_left low →
+    Exact AreAfterName (Below_tie 6) levels_left (after_name low)
 unfolding after_name
 after_name_exact levels_left low b =
     exact_map arguments_of (λ r xs u h. decode r fresh xs u h) steps_after_name (iterate_exact (stepping levels_left low b) fresh)
@@ -370,7 +380,8 @@ case_term (suc r) (mark OpenRound ∷ ys) t h = rw (h.2, h.1.1) (brackets h.1.2)
 case_term r _ t h = absurd h
 
 -- a term is read exactly
-pub term_exact : (levels_left : ℕ) (low : Option Level) → Below TermExact levels_left low → Exact IsTerm (Below_tie 6) levels_left (term_with low)
+pub term_exact : (levels_left : ℕ) (low : Option Level) → Below TermExact levels_left low →
+    Exact IsTerm (Below_tie 6) levels_left (term_with low)
 unfolding term_with
 term_exact levels_left low b =
     exact_as case_term (λ r xs t h. term_case h) (λ x h. h) (by_first (end_wrong refl some_term (λ r t h. h)) turn) where

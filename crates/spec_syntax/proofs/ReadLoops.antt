@@ -17,7 +17,8 @@ use Rattle.spec_syntax.specs.SyntaxView.{terminal_view, terminals_view, formula_
 use Rattle.spec_syntax.specs.internal.InnerView.{HasFaultOfMember}
 use Rattle.spec_syntax.specs.declared.formulas.Form.TheVariants.{Formula}
 use Rattle.spec_syntax.specs.internal.Forms.{form_with}
-use Rattle.spec_syntax.specs.Reading.{Level, lower, Arguments, empty, term_last, argument, argument_wanted, fresh, goes_on, arguments_of, further, operand_with}
+use Rattle.spec_syntax.specs.Reading.{Level, lower, Arguments, empty, term_last, argument, argument_wanted, fresh, goes_on, arguments_of}
+use Rattle.spec_syntax.specs.Reading.{further, operand_with}
 use Rattle.spec_syntax.specs.Reading.{above, Items, open_items, item_last}
 use Rattle.spec_syntax.specs.Reading.{items_of, item, begins_item, name_at, section, declaration}
 use Rattle.spec_syntax.proofs.ReadLemmas.{map_fault}
@@ -83,8 +84,11 @@ pub declaration_shorter : (levels_left : ℕ) (xs rest : List LentTerminal) (d :
 declaration_shorter levels_left = member_shortens (declaration levels_left) (declaration_shrinks levels_left)
 
 pub further_shrinks : (op : ManyOperator) (levels_left : ℕ) → Shrinks (push (further op (operand_with op (lower levels_left))))
-further_shrinks Conjunction levels_left = step_shrinks (list_stepping (further_member and_facts levels_left (prefix_exact levels_left (lower levels_left) (below_exact levels_left))))
-further_shrinks Disjunction levels_left = step_shrinks (list_stepping (further_member or_facts levels_left (and_exact levels_left (lower levels_left) (below_exact levels_left))))
+further_shrinks Conjunction levels_left =
+    step_shrinks (list_stepping (further_member and_facts levels_left
+    (prefix_exact levels_left (lower levels_left) (below_exact levels_left))))
+further_shrinks Disjunction levels_left =
+    step_shrinks (list_stepping (further_member or_facts levels_left (and_exact levels_left (lower levels_left) (below_exact levels_left))))
 
 pub further_shorter : (op : ManyOperator) (levels_left : ℕ) (xs rest : List LentTerminal) (f : FormulaSyntax) →
     further op (operand_with op (lower levels_left)) (terminals_view xs) ≡ Some (Ok (f, terminals_view rest)) → length rest < length xs
@@ -93,7 +97,8 @@ further_shorter op levels_left = member_shortens (further op (operand_with op (l
 -- ---- what follows a name
 
 arguments_shrink : (levels_left : ℕ) → Shrinks (argument (lower levels_left))
-arguments_shrink levels_left = step_shrinks (argument_stepping levels_left (lower levels_left) (terms_below levels_left (lower levels_left) (below_exact levels_left)))
+arguments_shrink levels_left =
+    step_shrinks (argument_stepping levels_left (lower levels_left) (terms_below levels_left (lower levels_left) (below_exact levels_left)))
 
 argument_found : (low : Option Level) (s : Arguments) (xs : List Terminal) → is_some (argument low s xs) ≡ goes_on s xs
 unfolding argument
@@ -104,7 +109,8 @@ argument_found low s (free x ∷ xs) = refl
 argument_found low s (mark OpenRound ∷ xs) = refl
 argument_found low s _ = refl
 
-some_found : {V : Type 0} (found : Option (Answer Terminal V)) (xs : List Terminal) → is_some found ≡ true → found ≡ Some (found_or_wrong found xs)
+some_found : {V : Type 0} (found : Option (Answer Terminal V)) (xs : List Terminal) → is_some found ≡ true →
+    found ≡ Some (found_or_wrong found xs)
 some_found None xs h = cc
 some_found (Some answer) xs h = refl
 
@@ -119,7 +125,8 @@ argument_is levels_left s xs h = some_found _ xs (argument_found (lower levels_l
 pub arguments_more : (levels_left : ℕ) (s t : Arguments) (xs rest : List Terminal) → goes_on s xs ≡ true →
     argument_wanted (lower levels_left) s xs ≡ Ok (t, rest) →
     iterate (argument (lower levels_left)) t rest ≡ iterate (argument (lower levels_left)) s xs
-arguments_more levels_left s t xs rest h k = next_step (arguments_shrink levels_left) s xs t rest (argument_is levels_left s xs h ∙ ap Some k)
+arguments_more levels_left s t xs rest h k =
+    next_step (arguments_shrink levels_left) s xs t rest (argument_is levels_left s xs h ∙ ap Some k)
 
 pub arguments_shorten : (levels_left : ℕ) (s t : Arguments) (xs rest : List LentTerminal) → goes_on s (terminals_view xs) ≡ true →
     argument_wanted (lower levels_left) s (terminals_view xs) ≡ Ok (t, terminals_view rest) → length rest < length xs
@@ -164,16 +171,19 @@ no_item_is levels_left fs _ h = cc
 
 -- a formula and its semicolon were read
 pub items_more : (levels_left : ℕ) (fs : List ReadFormula) (f : ReadFormula) (xs rest after : List Terminal) →
-    item levels_left (open_items (map formula_syntax fs)) xs ≡ Some (Ok (item_last (map formula_syntax fs ++ formula_syntax f ∷ []), rest)) →
+    item levels_left (open_items (map formula_syntax fs)) xs ≡ Some
+    (Ok (item_last (map formula_syntax fs ++ formula_syntax f ∷ []), rest)) →
     item levels_left (item_last (map formula_syntax fs ++ formula_syntax f ∷ [])) rest
     ≡ Some (Ok (open_items (map formula_syntax fs ++ formula_syntax f ∷ []), after)) →
-    iterate (item levels_left) (open_items (map formula_syntax (fs ++ f ∷ []))) after ≡ iterate (item levels_left) (open_items (map formula_syntax fs)) xs
+    iterate (item levels_left) (open_items (map formula_syntax (fs ++ f ∷ []))) after ≡ iterate (item levels_left)
+    (open_items (map formula_syntax fs)) xs
 items_more levels_left fs f xs rest after step semicolon =
     rw map-append (next_step (item_shrinks levels_left) _ rest _ after semicolon ∙ next_step (item_shrinks levels_left) _ xs _ rest step)
 
 -- or it was the last
 pub items_last : (levels_left : ℕ) (fs : List ReadFormula) (f : ReadFormula) (xs rest : List Terminal) →
-    item levels_left (open_items (map formula_syntax fs)) xs ≡ Some (Ok (item_last (map formula_syntax fs ++ formula_syntax f ∷ []), rest)) →
+    item levels_left (open_items (map formula_syntax fs)) xs ≡ Some
+    (Ok (item_last (map formula_syntax fs ++ formula_syntax f ∷ []), rest)) →
     item levels_left (item_last (map formula_syntax fs ++ formula_syntax f ∷ [])) rest ≡ None →
     iterate (item levels_left) (open_items (map formula_syntax fs)) xs ≡ Ok (item_last (map formula_syntax (fs ++ f ∷ [])), rest)
 items_last levels_left fs f xs rest step none =
@@ -189,11 +199,13 @@ pub items_fault : (levels_left : ℕ) (gs : List FormulaSyntax) (xs ys : List Te
     HasFaultOfMember (item levels_left (open_items gs) xs) fault →
     iterate (item levels_left) (open_items gs) xs ≡ iterate (item levels_left) (open_items []) ys →
     HasSyntaxFault (map_read items_of (iterate (item levels_left) (open_items []) ys)) fault
-items_fault levels_left gs xs ys fault h e = map_fault items_of _ fault (loop_fault (item_shrinks levels_left) (open_items gs) xs _ fault e h)
+items_fault levels_left gs xs ys fault h e =
+    map_fault items_of _ fault (loop_fault (item_shrinks levels_left) (open_items gs) xs _ fault e h)
 
 -- a formula takes terminals, and so does a semicolon
 pub items_shorten : (levels_left : ℕ) (gs : List FormulaSyntax) (t : Items) (xs rest after : List LentTerminal) →
-    item levels_left (open_items gs) (terminals_view xs) ≡ Some (Ok (t, terminals_view rest)) → length after < length rest → length after < length xs
+    item levels_left (open_items gs) (terminals_view xs) ≡ Some (Ok (t, terminals_view rest)) → length after < length rest →
+    length after < length xs
 items_shorten levels_left gs t xs rest after step few =
     let less = seen_shorter xs rest (item_shrinks levels_left (open_items gs) (terminals_view xs) t (terminals_view rest) step) in
     omega (arith, less, few)

@@ -11,7 +11,12 @@ use Rattle.tsl_terms.specs.declared.operator.ManyOperator.{ManyOperator}
 use Rattle.tsl_terms.specs.declared.operator.ManyOperator.TheVariants.{Conjunction, Disjunction}
 use Rattle.spec_syntax.specs.Syntax.{Terminal, free, word, mark, TermSyntax, FormulaSyntax, listed_terms, listed_formulas, join}
 use Rattle.spec_syntax.specs.Written.{sign_under, sign_between, sign_many, written_term, written_terms, written, written_further}
-use Rattle.spec_syntax.specs.Grammar.{unary_of, temporal_of, in_brackets, IsTerm, signal, constant, application, brackets, AreArguments, one_argument, more_arguments, IsArgument, signal_argument, constant_argument, brackets_argument, IsFormula, temporal, chain as chained, IsIff, no_iff, iff, IsImp, no_imp, imp, IsOr, disjunction, AreDisjuncts, no_disjunct, more_disjuncts, IsAnd, conjunction, AreConjuncts, no_conjunct, more_conjuncts, IsPrefix, prefix, atom, IsAtom, true_atom, false_atom, brackets_atom, update, bare_name, no_argument, test}
+use Rattle.spec_syntax.specs.Grammar.{unary_of, temporal_of, in_brackets, IsTerm, signal, constant, application, brackets, AreArguments}
+use Rattle.spec_syntax.specs.Grammar.{one_argument, more_arguments, IsArgument, signal_argument, constant_argument, brackets_argument}
+use Rattle.spec_syntax.specs.Grammar.{IsFormula, temporal, chain as chained, IsIff, no_iff, iff, IsImp, no_imp, imp, IsOr, disjunction}
+use Rattle.spec_syntax.specs.Grammar.{AreDisjuncts, no_disjunct, more_disjuncts, IsAnd, conjunction, AreConjuncts, no_conjunct}
+use Rattle.spec_syntax.specs.Grammar.{more_conjuncts, IsPrefix, prefix, atom, IsAtom, true_atom, false_atom, brackets_atom, update}
+use Rattle.spec_syntax.specs.Grammar.{bare_name, no_argument, test}
 use Rattle.spec_syntax.specs.Levels.{term_depth, terms_depth, depth, members_depth, depth_of_sides}
 
 both : {xs ys us vs : List Terminal} → xs ≡ us → ys ≡ vs → xs ++ ys ≡ us ++ vs

@@ -124,7 +124,8 @@ one_closer = record { yes = refl; only = only } where
 bracketed_exact : (levels_left : ℕ) → Exact InBrackets Any levels_left bracketed
 bracketed_exact levels_left =
     after_exact is_opener opener refl (record { ending = closer ∷ []; value = []; derives = ([], refl, no_number) })
-    (closed_exact one_closer refl (λ r xs ks h. h) (exact_as are_numbers all_numbers (λ x h. h) (members_exact (number_member levels_left))))
+    (closed_exact one_closer refl (λ r xs ks h. h)
+    (exact_as are_numbers all_numbers (λ x h. h) (members_exact (number_member levels_left))))
 
 -- how an entry goes on after its first token
 abbrev EntryCase : Grammar Token Entry

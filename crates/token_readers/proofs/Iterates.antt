@@ -2,14 +2,16 @@
 use Rattle.std.proofs.Common.{◌≡◌, ℕ, zero, suc, ◌<◌, List, [], ◌∷◌, ◌++◌, length, refl, ap, sym, ◌∙◌, append_assoc, length-append, arith}
 use Rattle.std.specs.Prelude.{Option, Some, None, Ok, Err}
 use Rattle.token_readers.specs.Readers.{Fault, Answer, Reader, and_then, go_on, iterate_most, iterate, map_read}
-use Rattle.token_readers.specs.Exact.{Grammar, SameFirst, both_begin, Before, Ending, gives, wrong, too_deep, ends_with, Says, Run, Agrees, Exact}
+use Rattle.token_readers.specs.Exact.{Grammar, SameFirst, both_begin, Before, Ending, gives, wrong, too_deep, ends_with, Says, Run, Agrees}
+use Rattle.token_readers.specs.Exact.{Exact}
 use Rattle.token_readers.proofs.Runs.{same_first, before_map, run_after, map_same, same_read}
 use Rattle.token_readers.proofs.Terminals.{Turn, run_here, run_end}
 use Rattle.token_readers.proofs.Then.{IsThen, run_then, agrees_then}
 
 module _ {T V : Type 0} where
   -- what a reader that gives a value has taken
-  pub taken : {Is : Grammar T V} {levels_left : ℕ} {reader : Reader T V} (xs : List T) → Run Is levels_left reader xs → (v : V) (rest : List T) →
+  pub taken : {Is : Grammar T V} {levels_left : ℕ} {reader : Reader T V} (xs : List T) → Run Is levels_left reader xs →
+      (v : V) (rest : List T) →
       reader xs ≡ Ok (v, rest) →
       (front : List T) × (xs ≡ front ++ rest) × Is levels_left front v
   taken {Is = Is} {levels_left = levels_left} {reader = reader} xs k v rest h =
@@ -118,7 +120,8 @@ module _ {T S : Type 0} where
     pub nothing : (s : S) (r : ℕ) (t : S) → IsStep s r [] t → ⊥
     pub at : (s : S) (x : T) → At (IsStep s) (steps s) levels_left (step s) x
     pub lift : (s : S) (r : ℕ) (xs : List T) (t : S) → IsStep s r xs t → IsStep s (suc (suc r)) xs t
-    pub follows : (s : S) (r : ℕ) (xs : List T) (t : S) → IsStep s r xs t → (x : T) (ys : List T) (u : S) → IsStep t r (x ∷ ys) u → steps s x
+    pub follows : (s : S) (r : ℕ) (xs : List T) (t : S) → IsStep s r xs t → (x : T) (ys : List T) (u : S) → IsStep t r (x ∷ ys) u →
+        steps s x
     pub stops : (s : S) (x : T) → ends x → (rest : List T) → step s (x ∷ rest) ≡ None
     pub weaker : (s : S) (x : T) → ends x → steps s x
 
@@ -160,7 +163,8 @@ module _ {T S : Type 0} where
       by (stays none never) = run_here (gives s) x (λ ys. ended s (x ∷ ys) (none ys)) (λ ys. stop) rest
       by (goes reader some turn) =
           run_after (AreSteps IsStep s) (λ t. t) [] (joined IsStep s) (iterate step s) read
-          (run_then (record { lift = k.lift s; default = λ r t. record { ending = []; value = t; derives = stop } }) levels_left reader (iterate step) (x ∷ rest)
+          (run_then (record { lift = k.lift s; default = λ r t. record { ending = []; value = t; derives = stop } }) levels_left reader
+          (iterate step) (x ∷ rest)
           (turn.run rest) (λ t left h. further t left (step_shrinks s (x ∷ rest) t left (some rest ∙ ap Some h)))) where
             read : (other : List T) → SameFirst (x ∷ rest) other →
                 iterate step s other ≡ map_read (λ t. t) (and_then (reader other) (iterate step))

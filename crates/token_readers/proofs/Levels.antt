@@ -42,21 +42,22 @@ module _ {T V : Type 0} where
 
   pub exact_up : {Is : Grammar T V} {ends : T → Type 0} {levels_left : ℕ} {reader : Reader T V} → Exact Is ends levels_left reader →
       Exact (Up Is) ends (suc levels_left) reader
-  exact_up {Is = Is} {ends = ends} {levels_left = levels_left} {reader = reader} k = record { run = λ xs. run xs (k.run xs); complete = complete } where
-    run : (xs : List T) → Run Is levels_left reader xs → Run (Up Is) (suc levels_left) reader xs
-    run xs h = record {
-      front = h.front;
-      rest = h.rest;
-      outcome = h.outcome;
-      split = h.split;
-      reads = h.reads;
-      says = says_up Is levels_left h.outcome h.front h.rest h.says;
-    }
+  exact_up {Is = Is} {ends = ends} {levels_left = levels_left} {reader = reader} k =
+      record { run = λ xs. run xs (k.run xs); complete = complete } where
+        run : (xs : List T) → Run Is levels_left reader xs → Run (Up Is) (suc levels_left) reader xs
+        run xs h = record {
+          front = h.front;
+          rest = h.rest;
+          outcome = h.outcome;
+          split = h.split;
+          reads = h.reads;
+          says = says_up Is levels_left h.outcome h.front h.rest h.says;
+        }
 
-    complete : (r : ℕ) (xs : List T) (v : V) → Up Is r xs v → (rest : List T) → Before ends rest →
-        Agrees (suc levels_left) r v rest (reader (xs ++ rest))
-    complete zero xs v h rest b = absurd h
-    complete (suc r) xs v h rest b = agrees_up levels_left r v rest (reader (xs ++ rest)) (k.complete r xs v h rest b)
+        complete : (r : ℕ) (xs : List T) (v : V) → Up Is r xs v → (rest : List T) → Before ends rest →
+            Agrees (suc levels_left) r v rest (reader (xs ++ rest))
+        complete zero xs v h rest b = absurd h
+        complete (suc r) xs v h rest b = agrees_up levels_left r v rest (reader (xs ++ rest)) (k.complete r xs v h rest b)
 
 module _ {L T U V : Type 0} where
   -- The terminal opens a form of the level below. Where there is none, it is a level too many.
@@ -101,12 +102,14 @@ module _ {T V : Type 0} (mark : T) (make : V → V) (Low : Grammar T V) where
 
 module _ {L T V : Type 0} {is : T → Bool} {mark : T} (tells : Tells is mark) (make : V → V) {Low : Grammar T V} where
   pub tail_exact : {lows ends : T → Type 0} {Holds : ℕ → L → Type 0} {levels_left : ℕ} {reader : Reader T V} (v : V) (low : Option L)
-      (pick : L → Reader T V) → ((k : ℕ) (l : L) → Holds k l → Exact Low lows k (pick l)) → Below Holds levels_left low → reader [] ≡ Ok (v, []) →
+      (pick : L → Reader T V) → ((k : ℕ) (l : L) → Holds k l → Exact Low lows k (pick l)) → Below Holds levels_left low →
+      reader [] ≡ Ok (v, []) →
       ((x : T) (rest : List T) → is x ≡ true → reader (x ∷ rest) ≡ map_read make (below low pick (x ∷ rest))) →
       ((x : T) (rest : List T) → is x ≡ false → reader (x ∷ rest) ≡ Ok (v, x ∷ rest)) → ((x : T) → ends x → is x ≡ false) →
       ((x : T) → ends x → lows x) →
       Begins (Low (suc levels_left)) [] → Exact (IsTail mark make Low v) ends levels_left reader
-  tail_exact {ends = ends} {Holds = Holds} {levels_left = levels_left} {reader = reader} v low pick of h at_end goes stays stops weaker some_low =
+  tail_exact {ends = ends} {Holds = Holds} {levels_left = levels_left} {reader = reader} v low pick of h at_end goes stays stops weaker
+      some_low =
       by_first (end_gives v at_end alone only (λ x rest e. stays x rest (stops x e))) (λ x. by x (is x) refl) where
         only : (r : ℕ) (w : V) → IsTail mark make Low v r [] w → w ≡ v
         only r w alone = refl
@@ -119,6 +122,7 @@ module _ {L T V : Type 0} {is : T → Bool} {mark : T} (tells : Tells is mark) (
 
         by : (x : T) (b : Bool) → is x ≡ b → Turn (IsTail mark make Low v) ends levels_left reader x
         by x true e =
-            turn_below {Holds = Holds} make low pick of h (λ rest. goes x rest e) weaker (record { ending = []; value = v; derives = alone }) some_low
+            turn_below {Holds = Holds} make low pick of h (λ rest. goes x rest e) weaker
+            (record { ending = []; value = v; derives = alone }) some_low
             (λ r ys u k. rw (tells.only x e) (with_right k)) (from x)
         by x false e = turn_gives v (λ rest. stays x rest e) alone (never x e)

@@ -86,7 +86,8 @@ module _ {T V W : Type 0} where
       says = says_after levels_left k.outcome k.front k.rest k.says;
     }
 
-  pub agrees_map : (make : V → W) (levels_left needed : ℕ) (v : V) (rest : List T) (answer : Answer T V) → Agrees levels_left needed v rest answer →
+  pub agrees_map : (make : V → W) (levels_left needed : ℕ) (v : V) (rest : List T) (answer : Answer T V) →
+      Agrees levels_left needed v rest answer →
       Agrees levels_left needed (make v) rest (map_read make answer)
   agrees_map make levels_left needed v rest (Ok (w, left)) h = (ap make h.0, h.1)
   agrees_map make levels_left needed v rest (Err (form left)) h = h

@@ -12,7 +12,8 @@ module _ {T V W : Type 0} where
   abbrev pub IsMapped : (V → W) → Grammar T V → Grammar T W
   IsMapped make Is r xs w = (v : V) × Is r xs v × (w ≡ make v)
 
-  pub mapped_exact : (make : V → W) {Is : Grammar T V} {ends : T → Type 0} {levels_left : ℕ} {reader : Reader T V} → Exact Is ends levels_left reader →
+  pub mapped_exact : (make : V → W) {Is : Grammar T V} {ends : T → Type 0} {levels_left : ℕ} {reader : Reader T V} →
+      Exact Is ends levels_left reader →
       Exact (IsMapped make Is) ends levels_left (λ xs. map_read make (reader xs))
   mapped_exact make k = exact_map make (λ r xs v h. (v, h, refl)) (λ r xs w h. h) k
 

@@ -2,7 +2,8 @@
 use Rattle.std.proofs.Common.{◌≡◌, ℕ, suc, ◌<◌, Bool, true, false, List, [], ◌∷◌, ◌++◌, refl, ap, sym, ◌∙◌}
 use Rattle.std.specs.Prelude.{Ok, if◌then◌else◌}
 use Rattle.token_readers.specs.Readers.{Reader, form_at, deep_at, after, map_read}
-use Rattle.token_readers.specs.Exact.{Grammar, SameFirst, both_end, both_begin, Before, Ending, gives, wrong, too_deep, ends_with, Begins, Says, Run}
+use Rattle.token_readers.specs.Exact.{Grammar, SameFirst, both_end, both_begin, Before, Ending, gives, wrong, too_deep, ends_with, Begins}
+use Rattle.token_readers.specs.Exact.{Says, Run}
 use Rattle.token_readers.specs.Exact.{Agrees, Exact}
 use Rattle.token_readers.proofs.Runs.{before_map, run_after, agrees_map, map_same}
 
@@ -40,7 +41,8 @@ module _ {T V : Type 0} {Is : Grammar T V} {ends : T → Type 0} {levels_left : 
     run [] = end.run
     run (x ∷ rest) = (turn x).run rest
 
-    complete : (r : ℕ) (xs : List T) (v : V) → Is r xs v → (rest : List T) → Before ends rest → Agrees levels_left r v rest (reader (xs ++ rest))
+    complete : (r : ℕ) (xs : List T) (v : V) → Is r xs v → (rest : List T) → Before ends rest →
+        Agrees levels_left r v rest (reader (xs ++ rest))
     complete r [] v h rest b = end.complete r v h rest b
     complete r (x ∷ ys) v h rest b = (turn x).complete r ys v h rest b
 
@@ -109,7 +111,8 @@ module _ {T U V : Type 0} {Others : Grammar T U} {Is : Grammar T V} {others ends
     complete = λ r ys v h rest b.
         let is = from r ys v h in
         rw (is.2, e (ys ++ rest))
-        (agrees_map make levels_left r is.0 rest (other (ys ++ rest)) (k.complete r ys is.0 is.1 rest (before_map ends others weaker rest b)));
+        (agrees_map make levels_left r is.0 rest (other (ys ++ rest))
+        (k.complete r ys is.0 is.1 rest (before_map ends others weaker rest b)));
   }
 
   -- another reader begins with the terminal
@@ -122,7 +125,8 @@ module _ {T U V : Type 0} {Others : Grammar T U} {Is : Grammar T V} {others ends
     complete = λ r ys v h rest b.
         let is = from r ys v h in
         rw (is.2, e (ys ++ rest))
-        (agrees_map make levels_left r is.0 rest (other (x ∷ (ys ++ rest))) (k.complete r ys is.0 is.1 rest (before_map ends others weaker rest b)));
+        (agrees_map make levels_left r is.0 rest (other (x ∷ (ys ++ rest)))
+        (k.complete r ys is.0 is.1 rest (before_map ends others weaker rest b)));
   } where
     agree : (rest ys : List T) → SameFirst (x ∷ rest) ys → reader ys ≡ map_read make (other ys)
     agree rest ys (both_begin y xs zs) = e zs

@@ -2,7 +2,8 @@
 use Rattle.std.proofs.Common.{◌≡◌, ℕ, suc, Bool, true, false, List, [], ◌∷◌, ◌++◌, refl, ap, sym, ◌∙◌, append_assoc}
 use Rattle.std.specs.Prelude.{Ok, Err, if◌then◌else◌}
 use Rattle.token_readers.specs.Readers.{form, deep, Answer, Reader, form_at, and_then, closing, closed_by}
-use Rattle.token_readers.specs.Exact.{Grammar, SameFirst, Before, Ending, gives, wrong, too_deep, ends_with, Begins, Says, Run, Agrees, Exact}
+use Rattle.token_readers.specs.Exact.{Grammar, SameFirst, Before, Ending, gives, wrong, too_deep, ends_with, Begins, Says, Run, Agrees}
+use Rattle.token_readers.specs.Exact.{Exact}
 use Rattle.token_readers.proofs.Runs.{same_first, same_split, exact_map, exact_as, Same}
 use Rattle.token_readers.proofs.Terminals.{Turn, by_first, end_wrong, turn_wrong, turn_alone}
 
@@ -54,7 +55,8 @@ module _ {T V W : Type 0} where
     second_begins r f front v h b = record {
       ending = b.ending;
       value = b.value;
-      derives = record { value = v; front = f; tail = front ++ b.ending; split = append_assoc f front b.ending; first = h; second = b.derives };
+      derives =
+          record { value = v; front = f; tail = front ++ b.ending; split = append_assoc f front b.ending; first = h; second = b.derives };
     }
 
     says_then : (levels_left : ℕ) (f : List T) (v : V) → Is levels_left f v → (outcome : Ending W) (front rest : List T) →
@@ -118,7 +120,8 @@ module _ {T V W : Type 0} where
   agrees_then levels_left needed v w ys rest (Err (deep left)) next h k = h
 
   -- one reader after another
-  pub exact_then : {Is : Grammar T V} {Next : V → Grammar T W} {firsts ends : T → Type 0} {levels_left : ℕ} {reader : Reader T V} {next : V →
+  pub exact_then : {Is : Grammar T V} {Next : V → Grammar T W} {firsts ends : T → Type 0} {levels_left : ℕ} {reader : Reader T V}
+      {next : V →
       Reader T W} → Fits Is Next →
       ((r : ℕ) (v : V) (xs : List T) (w : W) → Next v r xs w → (rest : List T) → Before ends rest → Before firsts (xs ++ rest)) →
       Exact Is firsts levels_left reader → ((v : V) → Exact (Next v) ends levels_left (next v)) →
@@ -149,17 +152,19 @@ abbrev pub IsMark : {T : Type 0} → T → Grammar T (Unit {0})
 IsMark mark r xs w = xs ≡ mark ∷ []
 
 -- a terminal that closes a form
-pub closing_exact : {T : Type 0} {is : T → Bool} {mark : T} → Tells is mark → (levels_left : ℕ) → Exact (IsMark mark) Any levels_left (closing is)
+pub closing_exact : {T : Type 0} {is : T → Bool} {mark : T} → Tells is mark → (levels_left : ℕ) →
+    Exact (IsMark mark) Any levels_left (closing is)
 unfolding closing
-closing_exact {T = T} {is = is} {mark = mark} tells levels_left = by_first (end_wrong refl closer (λ r w h. cc)) (λ x. by x (is x) refl) where
-  closer : Begins (IsMark mark levels_left) []
-  closer = record { ending = mark ∷ []; value = tt; derives = refl }
+closing_exact {T = T} {is = is} {mark = mark} tells levels_left =
+    by_first (end_wrong refl closer (λ r w h. cc)) (λ x. by x (is x) refl) where
+      closer : Begins (IsMark mark levels_left) []
+      closer = record { ending = mark ∷ []; value = tt; derives = refl }
 
-  by : (x : T) (b : Bool) → is x ≡ b → Turn (IsMark mark) Any levels_left (closing is) x
-  by x true e = turn_alone tt (λ rest. ap (λ b. if b then Ok (tt {0}, rest) else form_at (x ∷ rest)) e)
-      (λ r. ap (λ y. y ∷ []) (tells.only x e)) (λ r ys w h. (cc, refl))
-  by x false e = turn_wrong (λ rest. ap (λ b. if b then Ok (tt {0}, rest) else form_at (x ∷ rest)) e) closer
-      (λ r ys w h. let same : x ≡ mark = cc in let both : false ≡ is mark = rw (← same) (sym e) in let yes_it = tells.yes in cc)
+      by : (x : T) (b : Bool) → is x ≡ b → Turn (IsMark mark) Any levels_left (closing is) x
+      by x true e = turn_alone tt (λ rest. ap (λ b. if b then Ok (tt {0}, rest) else form_at (x ∷ rest)) e)
+          (λ r. ap (λ y. y ∷ []) (tells.only x e)) (λ r ys w h. (cc, refl))
+      by x false e = turn_wrong (λ rest. ap (λ b. if b then Ok (tt {0}, rest) else form_at (x ∷ rest)) e) closer
+          (λ r ys w h. let same : x ≡ mark = cc in let both : false ≡ is mark = rw (← same) (sym e) in let yes_it = tells.yes in cc)
 
 module _ {T V : Type 0} where
   -- this terminal, and the same value
@@ -184,7 +189,8 @@ module _ {T V : Type 0} where
           closer : (r : ℕ) (v : V) → Begins (IsClosing mark v r) []
           closer r v = record { ending = mark ∷ []; value = v; derives = (refl, refl) }
 
-          follow : (r : ℕ) (v : V) (xs : List T) (w : V) → IsClosing mark v r xs w → (rest : List T) → Before Any rest → Before ends (xs ++ rest)
+          follow : (r : ℕ) (v : V) (xs : List T) (w : V) → IsClosing mark v r xs w → (rest : List T) → Before Any rest →
+              Before ends (xs ++ rest)
           follow r v xs w h rest b = rw h.0 follows
 
           to : (r : ℕ) (xs : List T) (v : V) → IsThen Is (IsClosing mark) r xs v → IsClosed mark Is r xs v
@@ -196,28 +202,29 @@ module _ {T V : Type 0} where
 module _ {T U V W : Type 0} {X : Grammar T W} {Y : Grammar T V} {A : Grammar T U} {B : U → Grammar T V} {C : V → Grammar T W} where
   -- three forms one after another, by the last one or by the first one
   pub regroup : Same X (IsThen Y C) → Same Y (IsThen A B) → Same X (IsThen A (λ u. IsThen (B u) C))
-  regroup outer inner = record { to = λ r xs w h. to r xs w (outer.to r xs w h); from = λ r xs w h. outer.from r xs w (from r xs w h) } where
-    to : (r : ℕ) (xs : List T) (w : W) → IsThen Y C r xs w → IsThen A (λ u. IsThen (B u) C) r xs w
-    to r xs w h =
-        let first = inner.to r h.front h.value h.first in
-        record {
-          value = first.value;
-          front = first.front;
-          tail = first.tail ++ h.tail;
-          split = h.split ∙ ap (λ ys. ys ++ h.tail) first.split ∙ append_assoc first.front first.tail h.tail;
-          first = first.first;
-          second = record { value = h.value; front = first.tail; tail = h.tail; split = refl; first = first.second; second = h.second };
-        }
+  regroup outer inner =
+      record { to = λ r xs w h. to r xs w (outer.to r xs w h); from = λ r xs w h. outer.from r xs w (from r xs w h) } where
+        to : (r : ℕ) (xs : List T) (w : W) → IsThen Y C r xs w → IsThen A (λ u. IsThen (B u) C) r xs w
+        to r xs w h =
+            let first = inner.to r h.front h.value h.first in
+            record {
+              value = first.value;
+              front = first.front;
+              tail = first.tail ++ h.tail;
+              split = h.split ∙ ap (λ ys. ys ++ h.tail) first.split ∙ append_assoc first.front first.tail h.tail;
+              first = first.first;
+              second = record { value = h.value; front = first.tail; tail = h.tail; split = refl; first = first.second; second = h.second };
+            }
 
-    from : (r : ℕ) (xs : List T) (w : W) → IsThen A (λ u. IsThen (B u) C) r xs w → IsThen Y C r xs w
-    from r xs w h =
-        let rest = h.second in
-        record {
-          value = rest.value;
-          front = h.front ++ rest.front;
-          tail = rest.tail;
-          split = h.split ∙ ap (λ ys. h.front ++ ys) rest.split ∙ sym (append_assoc h.front rest.front rest.tail);
-          first = inner.from r (h.front ++ rest.front) rest.value
-              (record { value = h.value; front = h.front; tail = rest.front; split = refl; first = h.first; second = rest.first });
-          second = rest.second;
-        }
+        from : (r : ℕ) (xs : List T) (w : W) → IsThen A (λ u. IsThen (B u) C) r xs w → IsThen Y C r xs w
+        from r xs w h =
+            let rest = h.second in
+            record {
+              value = rest.value;
+              front = h.front ++ rest.front;
+              tail = rest.tail;
+              split = h.split ∙ ap (λ ys. h.front ++ ys) rest.split ∙ sym (append_assoc h.front rest.front rest.tail);
+              first = inner.from r (h.front ++ rest.front) rest.value
+                  (record { value = h.value; front = h.front; tail = rest.front; split = refl; first = h.first; second = rest.first });
+              second = rest.second;
+            }

@@ -35,7 +35,8 @@ module _ {T V : Type 0} where
   no_form : (levels_left r : ℕ) (v : V) (answer : Answer T V) (left : ℕ) → answer ≡ Err (form left) → Agrees levels_left r v [] answer → ⊥
   no_form levels_left r v answer left e h = rw e at h
 
-  no_deep : (levels_left : ℕ) (v : V) (answer : Answer T V) (left : ℕ) → answer ≡ Err (deep left) → Agrees levels_left levels_left v [] answer → ⊥
+  no_deep : (levels_left : ℕ) (v : V) (answer : Answer T V) (left : ℕ) → answer ≡ Err (deep left) →
+      Agrees levels_left levels_left v [] answer → ⊥
   no_deep levels_left v answer left e h = let less : levels_left < levels_left = rw e at h in omega (arith, less)
 
   module _ {Is : Grammar T V} {ends : T → Type 0} {levels_left : ℕ} {reader : Reader T V} (k : Exact Is ends levels_left reader) where
@@ -105,7 +106,8 @@ module _ {T V : Type 0} where
 
     -- and a level too many is
     pub first_deep : (xs : List T) (left : ℕ) → reader xs ≡ Err (deep left) →
-        (front : List T) × (at : T) × (rest : List T) × (xs ≡ front ++ at ∷ rest) × (left ≡ suc (length rest)) × FirstDeep Is levels_left front at
+        (front : List T) × (at : T) × (rest : List T) × (xs ≡ front ++ at ∷ rest) ×
+        (left ≡ suc (length rest)) × FirstDeep Is levels_left front at
     first_deep xs left h =
         by run.outcome run.rest (ap reader run.split ∙ run.reads run.rest (same_first run.rest)) run.split run.reads run.says where
           run : Run Is levels_left reader xs
@@ -114,7 +116,8 @@ module _ {T V : Type 0} where
           by : (outcome : Ending V) (rest : List T) → reader xs ≡ ends_with outcome rest → xs ≡ run.front ++ rest →
               ((other : List T) → SameFirst rest other → reader (run.front ++ other) ≡ ends_with outcome other) →
               Says Is levels_left outcome run.front rest →
-              (front : List T) × (at : T) × (rest : List T) × (xs ≡ front ++ at ∷ rest) × (left ≡ suc (length rest)) × FirstDeep Is levels_left front at
+              (front : List T) × (at : T) × (rest : List T) × (xs ≡ front ++ at ∷ rest) ×
+              (left ≡ suc (length rest)) × FirstDeep Is levels_left front at
           by (gives v) rest e split reads says = cc
           by wrong rest e split reads says = cc
           by too_deep [] e split reads says = absurd says

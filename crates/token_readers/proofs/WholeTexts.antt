@@ -48,7 +48,8 @@ module _ {T V : Type 0} {Is : Grammar T V} {starts ends : T → Type 0} {levels_
         cc
 
 -- what is read derives
-pub whole_derives : {T V : Type 0} {Is : Grammar T V} {ends : T → Type 0} {levels_left : ℕ} {reader : Reader T V} → Exact Is ends levels_left reader →
+pub whole_derives : {T V : Type 0} {Is : Grammar T V} {ends : T → Type 0} {levels_left : ℕ} {reader : Reader T V} →
+    Exact Is ends levels_left reader →
     Ends reader → (xs : List T) (v : V) (rest : List T) → reader xs ≡ Ok (v, rest) → (rest ≡ []) × Is levels_left xs v
 whole_derives exact k xs v rest h = (k.ends xs v rest h, derives_all exact xs v rest h (k.ends xs v rest h))
 
