@@ -340,16 +340,8 @@ formula_same = record { to = to; from = λ r xs f h. from xs h.front h.first h.s
   to r xs f (temporal {xs = front} {ys = ys} {a = a} op t is h k) =
       record { value = a; front = front; tail = t ∷ ys; split = refl; first = h; second = temporal_tail op t is k }
   to r xs f (chained h) =
-      let parts = iff_same.to r xs f h in
-      record {
-        value = parts.value;
-        front = parts.front;
-        tail = parts.tail;
-        split = parts.split;
-        first = parts.first;
-        second = chained_tail
-            parts.second;
-      }
+      let p = iff_same.to r xs f h in
+      record { value = p.value; front = p.front; tail = p.tail; split = p.split; first = p.first; second = chained_tail p.second }
 
   from : {r : ℕ} {a f : FormulaSyntax} {tail : List Terminal} (xs front : List Terminal) → IsPrefix r front a → FormulaTail a r tail f →
       xs ≡ front ++ tail → IsFormula r xs f

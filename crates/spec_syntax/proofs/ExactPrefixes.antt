@@ -6,8 +6,8 @@ use Rattle.token_readers.specs.Readers.{Reader, map_read, after, closed_by}
 use Rattle.token_readers.specs.Exact.{Grammar, Begins, Exact}
 use Rattle.token_readers.proofs.Runs.{map_same, exact_as}
 use Rattle.token_readers.proofs.Then.{Any, IsClosed, closed_exact}
-use Rattle.token_readers.proofs.Terminals.{Turn, by_first, end_wrong, turn_of, turn_wrong, turn_alone, turn_takes, turn_as, IsAfter}
-use Rattle.token_readers.proofs.Terminals.{after_exact}
+use Rattle.token_readers.proofs.Terminals.{Turn, by_first, end_wrong, turn_of, turn_wrong, turn_alone, turn_takes, turn_as, turn_goes_on}
+use Rattle.token_readers.proofs.Terminals.{IsAfter, after_exact}
 use Rattle.token_readers.proofs.Levels.{Below, Up, turn_below}
 use Rattle.spec_syntax.specs.declared.syntax.Word.TheVariants.{True, False}
 use Rattle.tsl_terms.specs.declared.operator.UnaryOperator.{UnaryOperator}
@@ -183,8 +183,7 @@ atom_exact levels_left low b =
           (λ rest. refl)
           (λ y h. tt) some_atom low_formula (λ r ys f h. (f, h, refl)) (λ r ys f h. h)
       turn (mark OpenSquare) =
-          turn_takes (λ f. f) (update_with low) (λ rest. sym (map_same (update_with low rest))) (λ y h. tt) (λ r ys f h. h)
-          (λ r ys f h. (f, h, refl))
+          turn_goes_on (update_with low) (λ rest. refl) (λ y h. tt) (λ r ys f h. h) (λ r ys f h. h)
           (update_exact levels_left low (terms_below levels_left low b))
       turn (free p) =
           turn_takes (atom_named p) (after_name low) (λ rest. refl) (λ y h. h) (λ r ys o h. (o, h, refl)) (λ r ys f h. h)

@@ -3,11 +3,11 @@ use Rattle.std.proofs.Common.{◌≡◌, ℕ, suc, ◌<◌, ◌+◌, true, List,
 use Rattle.std.proofs.lemmas.List.{append-nil}
 use Rattle.std.specs.Prelude.{None, Ok}
 use Rattle.tsl_text.specs.declared.TokenKind.TheVariants.{OpenBrace, CloseBrace, Semicolon}
-use Rattle.token_readers.specs.Readers.{Reader, form_at, map_read, closed_by, push, found_or_wrong}
+use Rattle.token_readers.specs.Readers.{Reader, form_at, closed_by, push, found_or_wrong}
 use Rattle.token_readers.specs.Exact.{Grammar, Begins, Exact}
 use Rattle.token_readers.proofs.Runs.{map_same, exact_map, exact_as}
 use Rattle.token_readers.proofs.Then.{Any, IsClosed, closed_exact}
-use Rattle.token_readers.proofs.Terminals.{Turn, by_first, end_wrong, turn_of, turn_wrong, turn_alone, turn_takes, turn_as}
+use Rattle.token_readers.proofs.Terminals.{Turn, by_first, end_wrong, turn_of, turn_wrong, turn_alone, turn_takes, turn_as, turn_goes_on}
 use Rattle.token_readers.proofs.Iterates.{Shrinks, Steps, stop, more, At, stays, goes, Stepping, step_shrinks, iterate_exact}
 use Rattle.token_readers.proofs.Whole.{reads_all, one_value, lifted}
 use Rattle.token_readers.proofs.WholeTexts.{ends_members, whole_derives}
@@ -202,12 +202,10 @@ side_exact levels_left assumed guaranteed = by_first (end_wrong refl some_side (
 
   turn : (x : Terminal) → Turn (SideCase assumed guaranteed) Any levels_left (side levels_left assumed guaranteed) x
   turn (word Assume) =
-      turn_takes (λ s. s) (items levels_left assumed) (λ rest. sym (map_same (items levels_left assumed rest))) (λ y h. h) (λ r ys s h. h)
-      (λ r ys s h. (s, h, refl)) (items_exact levels_left assumed)
+      turn_goes_on (items levels_left assumed) (λ rest. refl) (λ y h. h) (λ r ys s h. h) (λ r ys s h. h) (items_exact levels_left assumed)
   turn (word Guarantee) =
-      turn_takes (λ s. s) (items levels_left guaranteed) (λ rest. sym (map_same (items levels_left guaranteed rest))) (λ y h. h)
-      (λ r ys s h. h)
-      (λ r ys s h. (s, h, refl)) (items_exact levels_left guaranteed)
+      turn_goes_on (items levels_left guaranteed) (λ rest. refl) (λ y h. h) (λ r ys s h. h) (λ r ys s h. h)
+      (items_exact levels_left guaranteed)
   turn _ = turn_wrong (λ rest. refl) some_side (λ r ys s h. h)
 
 as_section : (r : ℕ) (xs : List Terminal) (s : SectionSyntax) → SideCase AssumeFirst GuaranteeFirst r xs s → SectionCase r xs s
@@ -223,19 +221,12 @@ section_at_exact levels_left = by_first (end_wrong refl some_section (λ r s h. 
   some_section = let none = no_items levels_left AssumeFirst in
       record { ending = word Assume ∷ none.ending; value = none.value; derives = none.derives }
 
-  after_word : (assumed guaranteed : Part) → (rest : List Terminal) →
-      side levels_left assumed guaranteed rest ≡ map_read (λ s. s) (side levels_left assumed guaranteed rest)
-  after_word assumed guaranteed rest = sym (map_same (side levels_left assumed guaranteed rest))
-
   turn : (x : Terminal) → Turn SectionCase Any levels_left (section_at levels_left) x
   turn (word Always) =
-      turn_takes (λ s. s) (side levels_left AssumeAlways GuaranteeAlways) (after_word AssumeAlways GuaranteeAlways) (λ y h. h)
-      (λ r ys s h. h)
-      (λ r ys s h. (s, h, refl))
+      turn_goes_on (side levels_left AssumeAlways GuaranteeAlways) (λ rest. refl) (λ y h. h) (λ r ys s h. h) (λ r ys s h. h)
       (side_exact levels_left AssumeAlways GuaranteeAlways)
   turn (word Initially) =
-      turn_takes (λ s. s) (side levels_left AssumeFirst GuaranteeFirst) (after_word AssumeFirst GuaranteeFirst) (λ y h. h) (λ r ys s h. h)
-      (λ r ys s h. (s, h, refl))
+      turn_goes_on (side levels_left AssumeFirst GuaranteeFirst) (λ rest. refl) (λ y h. h) (λ r ys s h. h) (λ r ys s h. h)
       (side_exact levels_left AssumeFirst GuaranteeFirst)
   turn _ =
       turn_as (λ s. s) (side levels_left AssumeFirst GuaranteeFirst) (λ rest. sym (map_same _)) (λ y h. h) as_section

@@ -1,5 +1,5 @@
 -- The loops of reading: what is read so far, and then what is read of the terminals that are left.
-use Rattle.std.proofs.Common.{◌≡◌, ℕ, ◌<◌, List, [], ◌∷◌, ◌++◌, length, map, refl, ap, sym, ◌∙◌, arith}
+use Rattle.std.proofs.Common.{◌≡◌, ℕ, ◌<◌, List, [], ◌∷◌, ◌++◌, length, map, refl, ap, sym, ◌∙◌, subst, arith}
 use Rattle.std.proofs.lemmas.List.{map-append, length-map}
 use Rattle.std.specs.Prelude.{true, false, Option, Some, None, is_some, Ok}
 use Rattle.tsl_text.specs.declared.TokenKind.TheVariants.{OpenRound, CloseBrace}
@@ -138,12 +138,6 @@ pub arguments_end : (levels_left : ℕ) (s : Arguments) (xs : List Terminal) →
     iterate (argument (lower levels_left)) s xs ≡ Ok (s, xs)
 arguments_end levels_left s xs h = no_step (arguments_shrink levels_left) s xs (none_found _ (argument_found (lower levels_left) s xs ∙ h))
 
-found_fault : {V : Type 0} (found : Option (Answer Terminal V)) (xs : List Terminal) (fault : ReadFault) →
-    found ≡ Some (found_or_wrong found xs) →
-    HasSyntaxFault (found_or_wrong found xs) fault → HasFaultOfMember found fault
-found_fault None xs fault e h = cc
-found_fault (Some answer) xs fault e h = member_fault answer fault h
-
 pub arguments_fault : (levels_left : ℕ) (s : Arguments) (xs ys : List Terminal) (fault : ReadFault) → goes_on s xs ≡ true →
     HasSyntaxFault (argument_wanted (lower levels_left) s xs) fault →
     iterate (argument (lower levels_left)) s xs ≡ iterate (argument (lower levels_left)) fresh ys →
@@ -151,7 +145,7 @@ pub arguments_fault : (levels_left : ℕ) (s : Arguments) (xs ys : List Terminal
 arguments_fault levels_left s xs ys fault h k e =
     map_fault arguments_of (iterate (argument (lower levels_left)) fresh ys) fault
     (loop_fault (arguments_shrink levels_left) s xs _ fault e
-    (found_fault (argument (lower levels_left) s xs) xs fault (argument_is levels_left s xs h) k))
+    (subst (λ found. HasFaultOfMember found fault) (sym (argument_is levels_left s xs h)) (member_fault _ fault k)))
 
 -- ---- the items of a section
 

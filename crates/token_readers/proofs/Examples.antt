@@ -1,5 +1,5 @@
 -- A small reader that takes all its laws from this crate: a name, and then numbers in square brackets.
-use Rattle.std.proofs.Common.{◌≡◌, ℕ, Bool, true, false, List, [], ◌∷◌, ◌++◌, length, refl, arith}
+use Rattle.std.proofs.Common.{◌≡◌, ℕ, Bool, true, false, List, [], ◌∷◌, ◌++◌, refl, arith}
 use Rattle.std.specs.Prelude.{Option, Some, None, Ok, Err}
 use Rattle.token_readers.specs.Readers.{form, Answer, Reader, form_at, closing, after, closed_by, map_read, iterate_most, iterate}
 use Rattle.token_readers.specs.Readers.{members, found_or_wrong}
@@ -8,7 +8,7 @@ use Rattle.token_readers.proofs.Runs.{exact_as}
 use Rattle.token_readers.proofs.Then.{Any, Tells, IsClosed, closed_exact}
 use Rattle.token_readers.proofs.Terminals.{Turn, by_first, end_wrong, turn_wrong, turn_alone, turn_takes, IsAfter, after_exact}
 use Rattle.token_readers.proofs.Lists.{AreAll, none, some, Member, members_exact}
-use Rattle.token_readers.proofs.Whole.{FirstForm, reads_all, one_value, first_form}
+use Rattle.token_readers.proofs.Whole.{HasFirstForm, reads_all, one_value, first_form}
 
 data Token : Type 0 where
   name : List ℕ → Token
@@ -166,6 +166,5 @@ each_entry_is_read xs v h = reads_all (entry_exact 0) 0 (omega arith) xs v h
 one_entry : (xs : List Token) (v w : Entry) → IsEntry xs v → IsEntry xs w → v ≡ w
 one_entry = one_value (entry_exact 0)
 
-faults_are_the_first : (xs : List Token) (left : ℕ) → read_entry xs ≡ Err (form left) →
-    (front : List Token) × (rest : List Token) × (xs ≡ front ++ rest) × (left ≡ length rest) × FirstForm (λ r. IsEntry) 0 front rest
+faults_are_the_first : (xs : List Token) (left : ℕ) → read_entry xs ≡ Err (form left) → HasFirstForm (λ r. IsEntry) 0 xs left
 faults_are_the_first = first_form (entry_exact 0)

@@ -27,12 +27,9 @@ module _ {T V : Type 0} where
   says_up : (Is : Grammar T V) (levels_left : ℕ) (outcome : Ending V) (front rest : List T) → Says Is levels_left outcome front rest →
       Says (Up Is) (suc levels_left) outcome front rest
   says_up Is levels_left (gives v) front rest h = h
-  says_up Is levels_left wrong front rest h = record { ending = h.ending; value = h.value; derives = h.derives }
+  says_up Is levels_left wrong front rest h = h
   says_up Is levels_left too_deep front [] h = h
-  says_up Is levels_left too_deep front (x ∷ rest) h = (
-    record { ending = h.0.ending; value = h.0.value; derives = h.0.derives },
-    record { ending = h.1.ending; value = h.1.value; derives = h.1.derives },
-  )
+  says_up Is levels_left too_deep front (x ∷ rest) h = h
 
   agrees_up : (levels_left r : ℕ) (v : V) (rest : List T) (answer : Answer T V) → Agrees levels_left r v rest answer →
       Agrees (suc levels_left) (suc r) v rest answer
@@ -59,18 +56,16 @@ module _ {T V : Type 0} where
         complete zero xs v h rest b = absurd h
         complete (suc r) xs v h rest b = agrees_up levels_left r v rest (reader (xs ++ rest)) (k.complete r xs v h rest b)
 
-module _ {L T U V : Type 0} where
+module _ {L T U V : Type 0} {Low : Grammar T U} {Is : Grammar T V} {lows ends : T → Type 0} {Holds : ℕ → L → Type 0} {levels_left : ℕ}
+    {reader : Reader T V} {x : T} where
   -- The terminal opens a form of the level below. Where there is none, it is a level too many.
-  pub turn_below : {Low : Grammar T U} {Is : Grammar T V} {lows ends : T → Type 0} {Holds : ℕ → L →
-      Type 0} {levels_left : ℕ} {reader : Reader T V} {x : T} (make : U → V)
-      (low : Option L) (pick : L → Reader T U) → ((k : ℕ) (l : L) → Holds k l → Exact Low lows k (pick l)) → Below Holds levels_left low →
-      ((rest : List T) → reader (x ∷ rest) ≡ map_read make (below low pick (x ∷ rest))) → ((y : T) → ends y → lows y) →
-      Begins (Is levels_left) [] → Begins (Low (suc levels_left)) [] →
+  pub turn_below : (make : U → V) (low : Option L) (pick : L → Reader T U) → ((k : ℕ) (l : L) → Holds k l → Exact Low lows k (pick l)) →
+      Below Holds levels_left low → ((rest : List T) → reader (x ∷ rest) ≡ map_read make (below low pick (x ∷ rest))) →
+      ((y : T) → ends y → lows y) → Begins (Is levels_left) [] → Begins (Low (suc levels_left)) [] →
       ((r : ℕ) (ys : List T) (u : U) → Low r ys u → Is (suc r) (x ∷ ys) (make u)) →
       ((r : ℕ) (ys : List T) (v : V) → Is r (x ∷ ys) v → (u : U) × Up Low r ys u × (v ≡ make u)) →
       Turn Is ends levels_left reader x
-  turn_below {Low = Low} {Is = Is} {lows = lows} {ends = ends} {Holds = Holds} {levels_left = levels_left} {reader = reader} {x =
-      x} make low pick of h e weaker some some_low to from =
+  turn_below make low pick of h e weaker some some_low to from =
       by levels_left low h e some some_low where
         up : (r : ℕ) (ys : List T) (u : U) → Up Low r ys u → Is r (x ∷ ys) (make u)
         up zero ys u k = absurd k
@@ -84,12 +79,8 @@ module _ {L T U V : Type 0} where
             ((rest : List T) → reader (x ∷ rest) ≡ map_read make (below low pick (x ∷ rest))) →
             Begins (Is levels_left) [] → Begins (Low (suc levels_left)) [] → Turn Is ends levels_left reader x
         by zero None h e some some_low =
-            turn_deep e some (record {
-              ending = some_low.ending;
-              value = make some_low.value;
-              derives =
-                  to 1 some_low.ending some_low.value some_low.derives;
-            }) more
+            let opened = to 1 some_low.ending some_low.value some_low.derives in
+            turn_deep e some (record { ending = some_low.ending; value = make some_low.value; derives = opened }) more
         by zero (Some l) h e some some_low = absurd h
         by (suc k) None h e some some_low = absurd h
         by (suc k) (Some l) h e some some_low = turn_takes make (pick l) e weaker up from (exact_up (of k l h))

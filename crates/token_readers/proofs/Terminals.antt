@@ -151,6 +151,15 @@ module _ {T U V : Type 0} {Others : Grammar T U} {Is : Grammar T V} {others ends
         rw (same r v h rest b, is.2)
         (agrees_map make levels_left r is.0 rest (other rest) (k.complete r [] is.0 is.1 rest (before_map ends others weaker rest b)))
 
+module _ {T V : Type 0} {Others Is : Grammar T V} {others ends : T → Type 0} {levels_left : ℕ} {reader : Reader T V} {x : T} where
+  -- the terminal is taken, and another reader gives the value
+  pub turn_goes_on : (other : Reader T V) → ((rest : List T) → reader (x ∷ rest) ≡ other rest) → ((y : T) → ends y → others y) →
+      ((r : ℕ) (ys : List T) (v : V) → Others r ys v → Is r (x ∷ ys) v) →
+      ((r : ℕ) (ys : List T) (v : V) → Is r (x ∷ ys) v → Others r ys v) → Exact Others others levels_left other →
+      Turn Is ends levels_left reader x
+  turn_goes_on other e weaker to from =
+      turn_takes (λ v. v) other (λ rest. e rest ∙ sym (map_same (other rest))) weaker to (λ r ys v h. (v, from r ys v h, refl))
+
 module _ {T V : Type 0} where
   -- a terminal that passes the test, and then a form
   abbrev pub IsAfter : (T → Bool) → Grammar T V → Grammar T V
@@ -171,7 +180,6 @@ module _ {T V : Type 0} where
 
         by : (x : T) (b : Bool) → is x ≡ b → Turn (IsAfter is Is) ends levels_left (after is reader) x
         by x true e =
-            turn_takes (λ v. v) reader (λ rest. ap (λ b. if b then reader rest else form_at (x ∷ rest)) e
-            ∙ sym (map_same (reader rest))) (λ y h. h) (λ r ys v h. (e, h))
-            (λ r ys v h. (v, h.1, refl)) k
+            turn_goes_on reader (λ rest. ap (λ b. if b then reader rest else form_at (x ∷ rest)) e) (λ y h. h) (λ r ys v h. (e, h))
+            (λ r ys v h. h.1) k
         by x false e = turn_wrong (λ rest. ap (λ b. if b then reader rest else form_at (x ∷ rest)) e) begins (never x e)

@@ -32,6 +32,16 @@ module _ {T V : Type 0} where
     pub stops : (other : List T) (v : V) → Is levels_left (front ++ at ∷ other) v → ⊥
     pub goes_on : Begins (Is (suc (suc levels_left))) (front ++ at ∷ [])
 
+  -- where among these terminals such a fault stands, with so many left from it on
+  abbrev pub HasFirstForm : Grammar T V → ℕ → List T → ℕ → Type 0
+  HasFirstForm Is levels_left xs left =
+      (front : List T) × (rest : List T) × (xs ≡ front ++ rest) × (left ≡ length rest) × FirstForm Is levels_left front rest
+
+  abbrev pub HasFirstDeep : Grammar T V → ℕ → List T → ℕ → Type 0
+  HasFirstDeep Is levels_left xs left =
+      (front : List T) × (at : T) × (rest : List T) × (xs ≡ front ++ at ∷ rest) × (left ≡ suc (length rest))
+      × FirstDeep Is levels_left front at
+
   no_form : (levels_left r : ℕ) (v : V) (answer : Answer T V) (left : ℕ) → answer ≡ Err (form left) → Agrees levels_left r v [] answer → ⊥
   no_form levels_left r v answer left e h = rw e at h
 
@@ -80,16 +90,14 @@ module _ {T V : Type 0} where
     lifted r few xs v h = derives_all xs v [] (reads_all r few xs v h) refl
 
     -- a form fault is the first
-    pub first_form : (xs : List T) (left : ℕ) → reader xs ≡ Err (form left) →
-        (front : List T) × (rest : List T) × (xs ≡ front ++ rest) × (left ≡ length rest) × FirstForm Is levels_left front rest
+    pub first_form : (xs : List T) (left : ℕ) → reader xs ≡ Err (form left) → HasFirstForm Is levels_left xs left
     first_form xs left h = by run.outcome (ap reader run.split ∙ run.reads run.rest (same_first run.rest)) run.reads run.says where
       run : Run Is levels_left reader xs
       run = k.run xs
 
       by : (outcome : Ending V) → reader xs ≡ ends_with outcome run.rest →
           ((other : List T) → SameFirst run.rest other → reader (run.front ++ other) ≡ ends_with outcome other) →
-          Says Is levels_left outcome run.front run.rest →
-          (front : List T) × (rest : List T) × (xs ≡ front ++ rest) × (left ≡ length rest) × FirstForm Is levels_left front rest
+          Says Is levels_left outcome run.front run.rest → HasFirstForm Is levels_left xs left
       by (gives v) e reads says = cc
       by too_deep e reads says = cc
       by wrong e reads says = (
@@ -105,9 +113,7 @@ module _ {T V : Type 0} where
       )
 
     -- and a level too many is
-    pub first_deep : (xs : List T) (left : ℕ) → reader xs ≡ Err (deep left) →
-        (front : List T) × (at : T) × (rest : List T) × (xs ≡ front ++ at ∷ rest) ×
-        (left ≡ suc (length rest)) × FirstDeep Is levels_left front at
+    pub first_deep : (xs : List T) (left : ℕ) → reader xs ≡ Err (deep left) → HasFirstDeep Is levels_left xs left
     first_deep xs left h =
         by run.outcome run.rest (ap reader run.split ∙ run.reads run.rest (same_first run.rest)) run.split run.reads run.says where
           run : Run Is levels_left reader xs
@@ -115,9 +121,7 @@ module _ {T V : Type 0} where
 
           by : (outcome : Ending V) (rest : List T) → reader xs ≡ ends_with outcome rest → xs ≡ run.front ++ rest →
               ((other : List T) → SameFirst rest other → reader (run.front ++ other) ≡ ends_with outcome other) →
-              Says Is levels_left outcome run.front rest →
-              (front : List T) × (at : T) × (rest : List T) × (xs ≡ front ++ at ∷ rest) ×
-              (left ≡ suc (length rest)) × FirstDeep Is levels_left front at
+              Says Is levels_left outcome run.front rest → HasFirstDeep Is levels_left xs left
           by (gives v) rest e split reads says = cc
           by wrong rest e split reads says = cc
           by too_deep [] e split reads says = absurd says
