@@ -7,6 +7,7 @@ use Rattle.spec_syntax.specs.declared.trees.ReadFormula.{ReadFormula}
 use Rattle.token_readers.specs.Readers.{form, deep, Answer, iterate, push, push_read, map_read, found_or_wrong}
 use Rattle.token_readers.proofs.Iterates.{Shrinks, step_shrinks, no_step, next_step, wrong_step}
 use Rattle.token_readers.proofs.Lists.{stepping as list_stepping}
+use Rattle.token_readers.proofs.MemberLoops.{viewed_more, members_end}
 use Rattle.tsl_terms.specs.declared.operator.ManyOperator.{ManyOperator}
 use Rattle.tsl_terms.specs.declared.operator.ManyOperator.TheVariants.{Conjunction, Disjunction}
 use Rattle.spec_syntax.specs.declared.fault.ReadFault.{ReadFault}
@@ -69,6 +70,9 @@ module _ {V : Type 0} (member : List Terminal → Option (Answer Terminal V)) (s
       (fault : ReadFault) → iterate (push member) vs xs ≡ whole →
       member xs ≡ Some answer → HasSyntaxFault answer fault → HasSyntaxFault whole fault
   member_found_fault xs vs whole answer fault h k e = members_fault xs vs whole fault h (rw k (member_fault answer fault e))
+
+-- all that a loop over members needs but its members
+pub ruleset members_read = (viewed_more, members_end, members_fault, member_found_fault)
 
 -- a member takes terminals
 pub name_shorter : (xs rest : List LentTerminal) (x : List ℕ) → name_at (terminals_view xs) ≡ Some (Ok (x, terminals_view rest)) →
@@ -146,6 +150,9 @@ arguments_fault levels_left s xs ys fault h k e =
     map_fault arguments_of (iterate (argument (lower levels_left)) fresh ys) fault
     (loop_fault (arguments_shrink levels_left) s xs _ fault e
     (subst (λ found. HasFaultOfMember found fault) (sym (argument_is levels_left s xs h)) (member_fault _ fault k)))
+
+-- all that the loop over arguments needs
+pub ruleset arguments_read = (arguments_more, arguments_shorten, arguments_end, arguments_fault)
 
 -- ---- the items of a section
 

@@ -287,7 +287,7 @@ fn operand_with<'a, 'b>(
 
 /// The further operands.
 #[cycle(read)]
-#[tactic(auto, using(token_readers::proofs::MemberLoops::viewed_more, token_readers::proofs::MemberLoops::members_end, crate::proofs::ReadLoops::member_found_fault, crate::proofs::ReadLoops::further_shorter, crate::proofs::ReadLoops::further_shrinks))]
+#[tactic(auto, using(crate::proofs::ReadLoops::members_read, crate::proofs::ReadLoops::further_shorter, crate::proofs::ReadLoops::further_shrinks))]
 fn operands<'a, 'b>(
     alloc: Global,
     levels_left: u32,

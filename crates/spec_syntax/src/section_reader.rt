@@ -73,7 +73,7 @@ fn after_semicolon<'a, 'b>(xs: &'b [Terminal<'a>]) -> Option<&'b [Terminal<'a>]>
 }
 
 /// The formulas up to the brace that closes them.
-#[tactic(auto, unfolding(crate::specs::Reading::formulas), using(crate::proofs::ReadLoops::items_more, crate::proofs::ReadLoops::items_last, crate::proofs::ReadLoops::items_end, crate::proofs::ReadLoops::items_fault, crate::proofs::ReadLoops::items_shorten))]
+#[tactic(auto, unfolding(crate::specs::Reading::formulas), using(crate::proofs::ReadLoops::items_end, crate::proofs::ReadLoops::items_shorten))]
 fn formulas<'a, 'b>(
     alloc: Global,
     levels_left: u32,
@@ -190,7 +190,7 @@ fn section<'a, 'b>(
 }
 
 /// The sections of a text. It answers an `Ok` only where the text is sections and nothing else.
-#[tactic(auto, unfolding(crate::specs::Reading::sections), using(token_readers::proofs::MemberLoops::viewed_more, token_readers::proofs::MemberLoops::members_end, crate::proofs::ReadLoops::members_fault, crate::proofs::ReadLoops::section_shorter, crate::proofs::ExactSections::section_shrinks))]
+#[tactic(auto, unfolding(crate::specs::Reading::sections), using(crate::proofs::ReadLoops::members_read, crate::proofs::ReadLoops::section_shorter, crate::proofs::ExactSections::section_shrinks))]
 pub fn sections<'a, 'b>(
     alloc: Global,
     levels_left: u32,
@@ -221,7 +221,7 @@ fn name_at<'a, 'b>(xs: &'b [Terminal<'a>]) -> Option<(&'a [u8], &'b [Terminal<'a
 }
 
 /// The names at the front.
-#[tactic(auto, using(token_readers::proofs::MemberLoops::viewed_more, token_readers::proofs::MemberLoops::members_end, crate::proofs::ReadLoops::name_shorter, crate::proofs::ExactDeclarations::name_shrinks))]
+#[tactic(auto, using(crate::proofs::ReadLoops::members_read, crate::proofs::ReadLoops::name_shorter, crate::proofs::ExactDeclarations::name_shrinks))]
 fn names<'a, 'b>(alloc: Global, xs: &'b [Terminal<'a>]) -> Answer<'a, 'b, Vec<&'a [u8]>>
     ensures { Reads names_syntax (members name_at) xs.now result }
 {
@@ -333,7 +333,7 @@ fn declaration<'a, 'b>(
 /// The sections and definitions of a text, in order. It answers an `Ok` only where the text is these
 /// and nothing else. An `Err` has the first fault of the form or of a level above `levels_left`, by how many
 /// terminals are left from it on, or says that memory ran out.
-#[tactic(auto, unfolding(crate::specs::Reading::declarations), using(token_readers::proofs::MemberLoops::viewed_more, token_readers::proofs::MemberLoops::members_end, crate::proofs::ReadLoops::members_fault, crate::proofs::ReadLoops::declaration_shorter, crate::proofs::ExactDeclarations::declaration_shrinks))]
+#[tactic(auto, unfolding(crate::specs::Reading::declarations), using(crate::proofs::ReadLoops::members_read, crate::proofs::ReadLoops::declaration_shorter, crate::proofs::ExactDeclarations::declaration_shrinks))]
 pub fn declarations<'a, 'b>(
     alloc: Global,
     levels_left: u32,

@@ -380,7 +380,7 @@ fn argument<'a, 'b>(
 
 /// What follows a name: nothing, or arguments, of which `()` has none.
 #[cycle(read)]
-#[tactic(auto, unfolding(crate::specs::Reading::after_name), using(crate::proofs::ReadLoops::arguments_more, crate::proofs::ReadLoops::arguments_shorten, crate::proofs::ReadLoops::arguments_end, crate::proofs::ReadLoops::arguments_fault))]
+#[tactic(auto, unfolding(crate::specs::Reading::after_name), using(crate::proofs::ReadLoops::arguments_read))]
 pub(crate) fn after_name<'a, 'b>(
     alloc: Global,
     levels_left: u32,
