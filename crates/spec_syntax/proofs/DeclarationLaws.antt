@@ -1,79 +1,56 @@
 -- Texts of sections and definitions: one reading, their sections alone, and their names.
 use Rattle.std.proofs.Common.{◌≡◌, ℕ, ◌+◌, ◌≤◌, List, [], ◌∷◌, ◌++◌, map, refl, ap, sym, ◌∙◌, arith}
-use Rattle.std.proofs.lemmas.List.{append-nil, append_cancel_right}
-use Rattle.std.specs.Prelude.{flat_map, Ok, Err}
+use Rattle.std.proofs.lemmas.List.{append-nil}
+use Rattle.std.specs.Prelude.{flat_map}
 use Rattle.tsl_text.specs.declared.TokenKind.TheVariants.{Equals, Semicolon, CloseBrace}
-use Rattle.token_readers.specs.Readers.{form, deep, Answer}
-use Rattle.token_readers.specs.Exact.{Agrees}
-use Rattle.token_readers.proofs.Runs.{same_read}
-use Rattle.token_readers.proofs.Whole.{one_value}
-use Rattle.spec_syntax.specs.Syntax.{Terminal, free, word, mark, FormulaSyntax, SectionSyntax, Definition, Declaration, the_section, the_definition, sections_among}
-use Rattle.spec_syntax.specs.Grammar.{AreItems, nothing, last_item, item, assume, guarantee, initially_assume, initially_guarantee}
-use Rattle.spec_syntax.specs.Grammar.{always_assume, always_guarantee, IsSection, braces, AreSections, no_section, section}
+use Rattle.token_readers.proofs.Then.{before_any}
+use Rattle.token_readers.proofs.Whole.{one_value, one_front}
+use Rattle.spec_syntax.specs.Syntax.{Terminal, free, word, mark, FormulaSyntax, SectionSyntax, Definition, Declaration, the_section}
+use Rattle.spec_syntax.specs.Syntax.{the_definition, sections_among}
+use Rattle.spec_syntax.specs.Grammar.{AreItems, nothing, last_item, item, assume}
+use Rattle.spec_syntax.specs.Grammar.{IsSection, braces, AreSections, no_section, section}
 use Rattle.spec_syntax.specs.Grammar.{IsDefinition, equation, AreDeclarations, no_declaration, a_section, a_definition}
-use Rattle.spec_syntax.specs.Reading.{declaration_at}
 use Rattle.spec_syntax.specs.Written.{written, free_texts, section_texts, declaration_texts}
 use Rattle.spec_syntax.proofs.Lift.{lift_formula, lift_section}
 use Rattle.spec_syntax.proofs.Written.{formula_is}
-use Rattle.spec_syntax.proofs.ExactDeclarations.{before_any, IsDeclaration, declaration_member, section_declares, definition_declares, declarations_exact}
+use Rattle.spec_syntax.proofs.ExactDeclarations.{IsDeclaration, declaration_exact, section_declares, definition_declares}
+use Rattle.spec_syntax.proofs.ExactDeclarations.{declarations_exact}
 
 -- ---- one reading
 
-pub one_list : (levels_left : ℕ) (xs own other : List Terminal) (a b : List Declaration) → AreDeclarations levels_left xs own a → AreDeclarations levels_left xs other b →
+pub one_list : (levels_left : ℕ) (xs own other : List Terminal) (a b : List Declaration) → AreDeclarations levels_left xs own a →
+    AreDeclarations levels_left xs other b →
     a ≡ b
 one_list levels_left xs own other a b h k = one_value (declarations_exact levels_left) xs a b (own, h) (other, k)
 
-read_whole : {V : Type 0} (levels_left : ℕ) (v : V) (rest : List Terminal) (answer : Answer Terminal V) → Agrees levels_left levels_left v rest answer → answer ≡ Ok (v, rest)
-read_whole levels_left v rest (Ok (w, left)) h = rw (h.0, h.1) refl
-read_whole levels_left v rest (Err (form left)) h = absurd h
-read_whole levels_left v rest (Err (deep left)) h = absurd (omega (arith, h))
+-- the first declaration takes the same terminals of one text, whatever follows
+module _ (levels_left : ℕ) {us vs ys zs : List Terminal} (p q : Declaration) where
+  first_split : IsDeclaration levels_left us p → IsDeclaration levels_left vs q → us ++ ys ≡ vs ++ zs → (us ≡ vs) × (ys ≡ zs)
+  first_split h k e = one_front (declaration_exact levels_left) us vs ys zs p q h k (before_any ys) (before_any zs) e
 
--- the first declaration is read whatever follows
-first_read : (levels_left : ℕ) (xs : List Terminal) (p : Declaration) → IsDeclaration levels_left xs p → (rest : List Terminal) →
-    declaration_at levels_left (xs ++ rest) ≡ Ok (p, rest)
-first_read levels_left xs p h rest =
-    let begins = (declaration_member levels_left).begins levels_left xs p h in
-    let x = begins.0 in
-    let ys = begins.1 in
-    let split : xs ≡ x ∷ ys = begins.2 in
-    let turned : IsDeclaration levels_left (x ∷ ys) p = rw split at h in
-    rw split (read_whole levels_left p rest (declaration_at levels_left (x ∷ (ys ++ rest)))
-    (((declaration_member levels_left).turn x refl).complete levels_left ys p turned rest (before_any rest)))
-
--- so it takes the same terminals of one text
-first_split : (levels_left : ℕ) (us vs ys zs : List Terminal) (p q : Declaration) → IsDeclaration levels_left us p → IsDeclaration levels_left vs q →
-    us ++ ys ≡ vs ++ zs → (us ≡ vs) × (ys ≡ zs)
-first_split levels_left us vs ys zs p q h k e =
-    let a : declaration_at levels_left (us ++ ys) ≡ Ok (p, ys) = first_read levels_left us p h ys in
-    let b : declaration_at levels_left (us ++ ys) ≡ Ok (q, zs) = ap (declaration_at levels_left) e ∙ first_read levels_left vs q k zs in
-    let rests : ys ≡ zs = (same_read (declaration_at levels_left (us ++ ys)) p q ys zs a b).1 in
-    (append_cancel_right us vs ys (e ∙ ap (λ ts. vs ++ ts) (sym rests)), rests)
-
-same_own : (levels_left : ℕ) {xs ys own other : List Terminal} {a b : List Declaration} → AreDeclarations levels_left xs own a → AreDeclarations levels_left ys other b →
-    xs ≡ ys → a ≡ b → own ≡ other
-same_own levels_left no_declaration no_declaration e same = refl
-same_own levels_left no_declaration (a_section h k) e same = cc
-same_own levels_left no_declaration (a_definition h k) e same = cc
-same_own levels_left (a_section h k) no_declaration e same = cc
-same_own levels_left (a_definition h k) no_declaration e same = cc
-same_own levels_left (a_section h k) (a_definition i l) e same = cc
-same_own levels_left (a_definition h k) (a_section i l) e same = cc
-same_own levels_left (a_section {xs = us} {ys = ys} {s = s} h k) (a_section {xs = vs} {ys = zs} {s = t} i l) e same =
-    let split = first_split levels_left us vs ys zs (the_section s) (the_section t) (section_declares levels_left us s h) (section_declares levels_left vs t i) e in
-    let own = same_own levels_left k l split.1 (cc) in
+same_own : (levels_left : ℕ) {xs ys own other : List Terminal} {a : List Declaration} → AreDeclarations levels_left xs own a →
+    AreDeclarations levels_left ys other a → xs ≡ ys → own ≡ other
+same_own levels_left no_declaration no_declaration e = refl
+same_own levels_left (a_section {xs = us} {s = s} h k) (a_section {xs = vs} i l) e =
+    let split =
+    first_split levels_left (the_section s) (the_section s) (section_declares levels_left us s h) (section_declares levels_left vs s i) e in
+    let own = same_own levels_left k l split.1 in
     λ j. split.0 j ++ own j
-same_own levels_left (a_definition {xs = us} {ys = ys} {d = d} h k) (a_definition {xs = vs} {ys = zs} {d = f} i l) e same =
-    let split = first_split levels_left us vs ys zs (the_definition d) (the_definition f) (definition_declares h) (definition_declares i) e in
-    same_own levels_left k l split.1 (cc)
+same_own levels_left (a_definition {d = d} h k) (a_definition i l) e =
+    let split = first_split levels_left (the_definition d) (the_definition d) (definition_declares h) (definition_declares i) e in
+    same_own levels_left k l split.1
 
-pub one_own : (levels_left : ℕ) (xs own other : List Terminal) (a b : List Declaration) → AreDeclarations levels_left xs own a → AreDeclarations levels_left xs other b →
+pub one_own : (levels_left : ℕ) (xs own other : List Terminal) (a b : List Declaration) → AreDeclarations levels_left xs own a →
+    AreDeclarations levels_left xs other b →
     own ≡ other
-one_own levels_left xs own other a b h k = same_own levels_left h k refl (one_list levels_left xs own other a b h k)
+one_own levels_left xs own other a b h k = same_own levels_left h (rw (one_list levels_left xs own other a b h k) k) refl
 
-lift_definition : {levels_left r : ℕ} {xs : List Terminal} {d : Definition} → levels_left ≤ r → IsDefinition levels_left xs d → IsDefinition r xs d
+lift_definition : {levels_left r : ℕ} {xs : List Terminal} {d : Definition} → levels_left ≤ r → IsDefinition levels_left xs d →
+    IsDefinition r xs d
 lift_definition few (equation x ps h) = equation x ps (lift_formula few h)
 
-lift_declarations : {levels_left r : ℕ} {xs own : List Terminal} {ds : List Declaration} → levels_left ≤ r → AreDeclarations levels_left xs own ds →
+lift_declarations : {levels_left r : ℕ} {xs own : List Terminal} {ds : List Declaration} → levels_left ≤ r →
+    AreDeclarations levels_left xs own ds →
     AreDeclarations r xs own ds
 lift_declarations few no_declaration = no_declaration
 lift_declarations few (a_section h k) = a_section (lift_section few h) (lift_declarations few k)
@@ -96,19 +73,11 @@ pub sections_are_all : {levels_left : ℕ} {xs : List Terminal} {ss : List Secti
 sections_are_all no_section = no_declaration
 sections_are_all (section h k) = a_section h (sections_are_all k)
 
-pub only_sections : {levels_left : ℕ} {xs own : List Terminal} {ds : List Declaration} → AreDeclarations levels_left xs own ds → (ss : List SectionSyntax) →
-    ds ≡ map the_section ss → (own ≡ xs) × AreSections levels_left xs ss
-only_sections no_declaration [] e = (refl, no_section)
-only_sections no_declaration (s ∷ ss) e = cc
-only_sections (a_section h k) [] e = cc
-only_sections (a_definition h k) [] e = cc
-only_sections (a_definition h k) (s ∷ ss) e = cc
-only_sections {levels_left = levels_left} (a_section {xs = us} {s = t} {ds = ds} h k) (s ∷ ss) e =
-    let same : t ≡ s = cc in
-    let others : ds ≡ map the_section ss = cc in
-    let rest = only_sections k ss others in
-    let here : IsSection levels_left us s = rw same at h in
-    (ap (λ ts. us ++ ts) rest.0, section here rest.1)
+pub only_sections : {levels_left : ℕ} {xs own : List Terminal} (ss : List SectionSyntax) →
+    AreDeclarations levels_left xs own (map the_section ss) →
+    (own ≡ xs) × AreSections levels_left xs ss
+only_sections [] no_declaration = (refl, no_section)
+only_sections (s ∷ ss) (a_section {xs = us} h k) = let rest = only_sections ss k in (ap (λ ts. us ++ ts) rest.0, section h rest.1)
 
 -- ---- names
 
@@ -134,21 +103,20 @@ braced_names {ys = ys} k = free_append ys (mark CloseBrace ∷ []) ∙ append-ni
 
 section_names : {levels_left : ℕ} {xs : List Terminal} {s : SectionSyntax} → IsSection levels_left xs s → free_texts xs ≡ section_texts s
 section_names (braces assume k) = braced_names k
-section_names (braces guarantee k) = braced_names k
-section_names (braces initially_assume k) = braced_names k
-section_names (braces initially_guarantee k) = braced_names k
-section_names (braces always_assume k) = braced_names k
-section_names (braces always_guarantee k) = braced_names k
+section_names (braces _ k) = braced_names k
 
-body_names : (xs : List Terminal) (a : FormulaSyntax) (ps : List (List ℕ)) → xs ≡ written a → free_texts (map free ps ++ mark Equals ∷ (xs ++ mark Semicolon ∷ [])) ≡ ps ++ free_texts (written a)
+body_names : (xs : List Terminal) (a : FormulaSyntax) (ps : List (List ℕ)) → xs ≡ written a →
+    free_texts (map free ps ++ mark Equals ∷ (xs ++ mark Semicolon ∷ [])) ≡ ps ++ free_texts (written a)
 body_names xs a ps e =
     free_append (map free ps) (mark Equals ∷ (xs ++ mark Semicolon ∷ []))
     ∙ (λ i. free_names ps i ++ (free_append xs (mark Semicolon ∷ []) ∙ append-nil (free_texts xs) ∙ ap free_texts e) i)
 
-definition_names : {levels_left : ℕ} {xs : List Terminal} {d : Definition} → IsDefinition levels_left xs d → free_texts xs ≡ declaration_texts (the_definition d)
+definition_names : {levels_left : ℕ} {xs : List Terminal} {d : Definition} → IsDefinition levels_left xs d →
+    free_texts xs ≡ declaration_texts (the_definition d)
 definition_names (equation {xs = xs} {a = a} x ps h) = ap (λ ts. x ∷ ts) (body_names xs a ps (formula_is h))
 
-pub all_names : {levels_left : ℕ} {xs own : List Terminal} {ds : List Declaration} → AreDeclarations levels_left xs own ds → free_texts xs ≡ flat_map declaration_texts ds
+pub all_names : {levels_left : ℕ} {xs own : List Terminal} {ds : List Declaration} → AreDeclarations levels_left xs own ds →
+    free_texts xs ≡ flat_map declaration_texts ds
 all_names no_declaration = refl
 all_names (a_section {xs = xs} {ys = ys} h k) = free_append xs ys ∙ (λ i. section_names h i ++ all_names k i)
 all_names (a_definition {xs = xs} {ys = ys} h k) = free_append xs ys ∙ (λ i. definition_names h i ++ all_names k i)

@@ -1,25 +1,28 @@
 -- Sections and definitions, in any order, are read exactly.
-use Rattle.std.proofs.Common.{◌≡◌, ℕ, suc, ◌<◌, ◌+◌, Bool, true, false, List, [], ◌∷◌, ◌++◌, map, refl, ap, sym, ◌∙◌, append_assoc, arith}
-use Rattle.std.proofs.lemmas.List.{append-nil}
-use Rattle.std.specs.Prelude.{Some, None, Ok}
+use Rattle.std.proofs.Common.{◌≡◌, ℕ, suc, Bool, true, false, List, [], ◌∷◌, ◌++◌, map, refl, ap, sym, ◌∙◌, append_assoc, arith}
+use Rattle.std.specs.Prelude.{Some, None, Ok, codes}
 use Rattle.tsl_text.specs.declared.TokenKind.TheVariants.{Equals, Semicolon}
 use Rattle.token_readers.specs.Readers.{found_or_wrong, push}
-use Rattle.token_readers.specs.Exact.{Grammar, Before, Begins, Exact}
+use Rattle.token_readers.specs.Exact.{Grammar, Begins, Exact}
 use Rattle.token_readers.proofs.Runs.{exact_map, exact_as}
-use Rattle.token_readers.proofs.Then.{Any, IsThen, exact_then, lift_then, IsClosed, lift_closed, closed_exact}
-use Rattle.token_readers.proofs.Terminals.{Turn, turn_alone, turn_takes, turn_as}
-use Rattle.token_readers.proofs.Iterates.{Shrinks, step_shrinks, no_step_left, taken}
+use Rattle.token_readers.proofs.Then.{Any, before_any, IsThen, exact_then, lift_then, IsClosed, lift_closed, closed_exact}
+use Rattle.token_readers.proofs.Terminals.{Turn, by_first, end_as, turn_of, turn_alone, turn_takes, turn_as}
+use Rattle.token_readers.proofs.Iterates.{Shrinks, step_shrinks}
 use Rattle.token_readers.proofs.Whole.{reads_all}
-use Rattle.token_readers.proofs.Lists.{AreAll, none, some, Member, stepping, members_exact}
-use Rattle.spec_syntax.specs.declared.syntax.Word.TheVariants.{True}
-use Rattle.spec_syntax.specs.Syntax.{Terminal, free, word, mark, FormulaSyntax, truth, SectionSyntax, Definition, Declaration, the_section, the_definition}
-use Rattle.spec_syntax.specs.Grammar.{IsFormula, chain, no_iff, no_imp, disjunction, no_disjunct, conjunction, no_conjunct, atom, true_atom}
+use Rattle.token_readers.proofs.WholeTexts.{ends_members, whole_derives}
+use Rattle.token_readers.proofs.Taken.{Never}
+use Rattle.token_readers.proofs.Lists.{AreAll, none, some, Member, stepping, members_exact, each_member}
+use Rattle.spec_syntax.specs.declared.syntax.Closer.TheVariants.{Equals as EqualsAfter, Semicolon as SemicolonAfter}
+use Rattle.spec_syntax.specs.Syntax.{Terminal, free, mark, FormulaSyntax, bare, SectionSyntax, Definition, Declaration, the_section}
+use Rattle.spec_syntax.specs.Syntax.{the_definition}
+use Rattle.spec_syntax.specs.Grammar.{IsFormula}
 use Rattle.spec_syntax.specs.Grammar.{IsSection, IsDefinition, equation, AreDeclarations, no_declaration, a_section, a_definition}
-use Rattle.spec_syntax.specs.Reading.{is_equals, is_semicolon, lower, section_at, name_at, parameters, body}
+use Rattle.spec_syntax.specs.Reading.{lower, side, section_at, name_at, parameters, body}
 use Rattle.spec_syntax.specs.Reading.{definition_made, definition, declaration_at, declaration, declarations}
 use Rattle.spec_syntax.specs.Texts.{IsText}
-use Rattle.spec_syntax.proofs.Lift.{lift_formula, lift_section}
-use Rattle.spec_syntax.proofs.ExactTerms.{tie}
+use Rattle.spec_syntax.proofs.MoreLevels.{formula_more, section_more}
+use Rattle.spec_syntax.proofs.ExactTerms.{a, tells}
+use Rattle.spec_syntax.proofs.ExactPrefixes.{a_formula, closed_formula}
 use Rattle.spec_syntax.proofs.ExactFormulas.{formula_exact, below_exact}
 use Rattle.spec_syntax.proofs.ExactSections.{section_case, section_exact}
 
@@ -78,100 +81,45 @@ all_names r (p ∷ ps) = some {f = free p ∷ []} refl (all_names r ps)
 
 -- ---- definitions
 
-equals_no_name : (x : Terminal) → is_equals x ≡ true → is_name x ≡ false
-equals_no_name (free x) h = cc
-equals_no_name _ h = refl
-
-semicolon_loose : (x : Terminal) → is_semicolon x ≡ true → tie x < 1
-semicolon_loose (mark Semicolon) h = omega arith
-semicolon_loose _ h = cc
-
-equals_is : (x : Terminal) → is_equals x ≡ true → x ≡ mark Equals
-equals_is (mark Equals) h = refl
-equals_is _ h = cc
-
-semicolon_is : (x : Terminal) → is_semicolon x ≡ true → x ≡ mark Semicolon
-semicolon_is (mark Semicolon) h = refl
-semicolon_is _ h = cc
-
 abbrev IsParameters : Grammar Terminal (List (List ℕ))
-IsParameters = IsClosed is_equals (AreAll IsName)
-
-abbrev IsBody : Grammar Terminal FormulaSyntax
-IsBody = IsClosed is_semicolon IsFormula
+IsParameters = IsClosed (mark Equals) (AreAll IsName)
 
 -- a body after these parameters
 abbrev WithBody : List ℕ → List (List ℕ) → Grammar Terminal Definition
-WithBody x ps r xs d = (a : FormulaSyntax) × IsBody r xs a × (d ≡ definition_made x ps a)
+WithBody x ps r xs d = (a : FormulaSyntax) × IsClosed (mark Semicolon) IsFormula r xs a × (d ≡ definition_made x ps a)
 
 -- a definition after its name
 abbrev IsAfterName : List ℕ → Grammar Terminal Definition
 IsAfterName x = IsThen IsParameters (WithBody x)
 
-parameters_exact : (levels_left : ℕ) → Exact IsParameters Any levels_left parameters
-unfolding parameters
-parameters_exact levels_left = closed_exact is_equals (mark Equals) refl equals_no_name more_names (members_exact (name_member levels_left))
-
-body_exact : (levels_left : ℕ) → Exact IsBody Any levels_left (body levels_left)
-unfolding body
-body_exact levels_left =
-    closed_exact is_semicolon (mark Semicolon) refl semicolon_loose (λ r xs f h. lift_formula (omega arith) h)
-    (formula_exact levels_left (lower levels_left) (below_exact levels_left))
-
-some_formula : (r : ℕ) → IsFormula r (word True ∷ []) truth
-some_formula r =
-    chain (no_iff (no_imp (disjunction {xs = word True ∷ []} {ys = []} {a = truth} {fs = []}
-    (conjunction {xs = word True ∷ []} {ys = []} {a = truth} {fs = []} (atom true_atom) no_conjunct) no_disjunct)))
-
--- what closes a form, behind it
-closed : {V : Type 0} (is : Terminal → Bool) (closer : Terminal) → is closer ≡ true → (Is : Grammar Terminal V) (r : ℕ) (xs : List Terminal) (v : V) →
-    Is r xs v → IsClosed is Is r (xs ++ closer ∷ []) v
-closed is closer e Is r xs v h =
-    record { value = v; front = xs; tail = closer ∷ []; split = refl; first = h; second = (closer, refl, e, refl) }
-
-opened : {V : Type 0} (is : Terminal → Bool) (closer : Terminal) → ((x : Terminal) → is x ≡ true → x ≡ closer) →
-    (Is : Grammar Terminal V) (r : ℕ) (xs : List Terminal) (v : V) →
-    IsClosed is Is r xs v → (front : List Terminal) × (xs ≡ front ++ closer ∷ []) × Is r front v
-opened is closer only Is r xs v h = (
-  h.front,
-  h.split ∙ ap (λ zs. h.front ++ zs) (h.second.1 ∙ ap (λ x. x ∷ []) (only h.second.0 h.second.2)),
-  rw h.second.3 h.first,
-)
-
-some_body : (x : List ℕ) (r : ℕ) (ps : List (List ℕ)) → Begins (WithBody x ps r) []
-some_body x r ps = record {
-  ending = word True ∷ mark Semicolon ∷ [];
-  value = definition_made x ps truth;
-  derives = (truth, closed is_semicolon (mark Semicolon) refl IsFormula r (word True ∷ []) truth (some_formula r), refl);
-}
-
-pub before_any : (xs : List Terminal) → Before Any xs
-before_any [] = tt
-before_any (x ∷ xs) = tt
-
 definition_exact : (levels_left : ℕ) (x : List ℕ) → Exact (IsAfterName x) Any levels_left (definition levels_left x)
-unfolding definition
+unfolding definition parameters body
 definition_exact levels_left x =
-    exact_then (record { lift = lift_closed is_equals (AreAll IsName) more_names; default = some_body x })
-    (λ r ps xs d h rest b. before_any (xs ++ rest)) (parameters_exact levels_left)
-    (λ ps. exact_map (definition_made x ps) (λ r xs a h. (a, h, refl)) (λ r xs d h. h) (body_exact levels_left))
-
-more_body : (x : List ℕ) (ps : List (List ℕ)) (r : ℕ) (xs : List Terminal) (d : Definition) → WithBody x ps r xs d →
-    WithBody x ps (suc (suc r)) xs d
-more_body x ps r xs d h =
-    (h.0, lift_closed is_semicolon IsFormula (λ q ys f k. lift_formula (omega arith) k) r xs h.0 h.1, h.2)
+    exact_then (record { lift = lift_closed (mark Equals) (AreAll IsName) more_names; default = some_body })
+    (λ r ps xs d h rest b. before_any (xs ++ rest))
+    (closed_exact (tells EqualsAfter) refl more_names (members_exact (name_member levels_left)))
+    (λ ps. exact_map (definition_made x ps) (λ r xs a h. (a, h, refl)) (λ r xs d h. h)
+    (closed_formula SemicolonAfter (omega arith) (formula_exact levels_left (lower levels_left) (below_exact levels_left))))
+  where
+    some_body : (r : ℕ) (ps : List (List ℕ)) → Begins (WithBody x ps r) []
+    some_body r ps = record {
+      ending = a ∷ mark Semicolon ∷ [];
+      value = definition_made x ps (bare (codes "a"));
+      derives = (bare (codes "a"), (a ∷ [], refl, a_formula r), refl);
+    }
 
 more_definition : (x : List ℕ) (r : ℕ) (xs : List Terminal) (d : Definition) → IsAfterName x r xs d → IsAfterName x (suc (suc r)) xs d
-more_definition x = lift_then IsParameters (WithBody x) (lift_closed is_equals (AreAll IsName) more_names) (more_body x)
+more_definition x = lift_then IsParameters (WithBody x) (lift_closed (mark Equals) (AreAll IsName) more_names)
+    (λ ps r xs d h. (h.0, (h.1.0, h.1.1, formula_more (formula_more h.1.2)), h.2))
 
 is_definition : (x : List ℕ) (r : ℕ) (xs : List Terminal) (d : Definition) → IsAfterName x r xs d → IsDefinition r (free x ∷ xs) d
 is_definition x r xs d h =
-    let heads = opened is_equals (mark Equals) equals_is (AreAll IsName) r h.front h.value h.first in
-    let inner = opened is_semicolon (mark Semicolon) semicolon_is IsFormula r h.tail h.second.0 h.second.1 in
-    let split : xs ≡ map free h.value ++ mark Equals ∷ (inner.0 ++ mark Semicolon ∷ []) =
-    h.split ∙ (λ i. (heads.1 ∙ ap (λ ns. ns ++ mark Equals ∷ []) (names_are r heads.0 h.value heads.2)) i ++ inner.1 i)
-    ∙ append_assoc (map free h.value) (mark Equals ∷ []) (inner.0 ++ mark Semicolon ∷ []) in
-    rw (split, h.second.2) (equation x h.value inner.2)
+    let body = h.second.1 in
+    let names = names_are r h.first.0 h.value h.first.2 in
+    let split : xs ≡ map free h.value ++ mark Equals ∷ (body.0 ++ mark Semicolon ∷ []) =
+    h.split ∙ (λ i. (h.first.1 ∙ ap (λ ns. ns ++ mark Equals ∷ []) names) i ++ body.1 i)
+    ∙ append_assoc (map free h.value) (mark Equals ∷ []) (body.0 ++ mark Semicolon ∷ []) in
+    rw (split, h.second.2) (equation x h.value body.2)
 
 after_name : (x : List ℕ) (r : ℕ) (ps : List (List ℕ)) (xs : List Terminal) (a : FormulaSyntax) → IsFormula r xs a →
     IsAfterName x r (map free ps ++ mark Equals ∷ (xs ++ mark Semicolon ∷ [])) (definition_made x ps a)
@@ -180,8 +128,8 @@ after_name x r ps xs a h = record {
   front = map free ps ++ mark Equals ∷ [];
   tail = xs ++ mark Semicolon ∷ [];
   split = sym (append_assoc (map free ps) (mark Equals ∷ []) (xs ++ mark Semicolon ∷ []));
-  first = closed is_equals (mark Equals) refl (AreAll IsName) r (map free ps) ps (all_names r ps);
-  second = (a, closed is_semicolon (mark Semicolon) refl IsFormula r xs a h, refl);
+  first = (map free ps, refl, all_names r ps);
+  second = (a, (xs, refl, h), refl);
 }
 
 -- ---- declarations
@@ -193,48 +141,41 @@ IsDeclaration r xs p = (s : SectionSyntax) × IsSection r xs s × (p ≡ the_sec
 
 pub section_declares : (r : ℕ) (xs : List Terminal) (s : SectionSyntax) → IsSection r xs s → IsDeclaration r xs (the_section s)
 section_declares r (free x ∷ ys) s h = absurd (section_case h)
-section_declares r [] s h = (s, h, refl)
 section_declares r _ s h = (s, h, refl)
 
 pub definition_declares : {r : ℕ} {xs : List Terminal} {d : Definition} → IsDefinition r xs d → IsDeclaration r xs (the_definition d)
 definition_declares {r = r} (equation {xs = xs} {a = a} x ps h) = (definition_made x ps a, after_name x r ps xs a h, refl)
 
-pub declaration_member : (levels_left : ℕ) → Member IsDeclaration Any (λ x. ⊥) levels_left (declaration levels_left) (λ x. true) (declaration_at levels_left)
-unfolding declaration declaration_at
-declaration_member levels_left = record {
-  at_end = refl;
-  none = λ x rest e. cc;
-  some = λ x rest e. refl;
-  begins = begins;
-  lift = lift;
-  follows = λ x e. tt;
-  stops = λ x h. absurd h;
-  weaker = λ x h. tt;
-  turn = λ x e. turn x;
-} where
-  begins : (r : ℕ) (xs : List Terminal) (p : Declaration) → IsDeclaration r xs p → (x : Terminal) × (ys : List Terminal) × (xs ≡ x ∷ ys) × (true ≡ true)
-  begins r [] p h = absurd (section_case h.1)
-  begins r (x ∷ ys) p h = (x, ys, refl, refl)
+pub declaration_exact : (levels_left : ℕ) → Exact IsDeclaration Any levels_left (declaration_at levels_left)
+unfolding declaration_at section_at side
+declaration_exact levels_left =
+    by_first (end_as the_section (section_at levels_left) refl (λ y h. h) section_declares (λ r p h. h) (λ r p h. absurd (section_case h.1))
+    (section_exact levels_left)) turn where
+      turn : (x : Terminal) → Turn IsDeclaration Any levels_left (declaration_at levels_left) x
+      turn (free x) =
+          turn_takes the_definition (definition levels_left x) (λ rest. refl) (λ y h. h) (λ r ys d h. (d, h, refl)) (λ r ys p h. h)
+          (definition_exact levels_left x)
+      turn _ =
+          turn_as the_section (section_at levels_left) (λ rest. refl) (λ y h. h) section_declares (λ r ys p h. h)
+          (turn_of (section_exact levels_left) _)
 
-  lift : (r : ℕ) (xs : List Terminal) (p : Declaration) → IsDeclaration r xs p → IsDeclaration (suc (suc r)) xs p
-  lift r (free x ∷ ys) p h = (h.0, more_definition x r ys h.0 h.1, h.2)
-  lift r [] p h = (h.0, lift_section (omega arith) h.1, h.2)
-  lift r _ p h = (h.0, lift_section (omega arith) h.1, h.2)
-
-  turn : (x : Terminal) → Turn IsDeclaration Any levels_left (declaration_at levels_left) x
-  turn (free x) =
-      turn_takes the_definition (definition levels_left x) (λ rest. refl) (λ y h. h) (λ r ys d h. (d, h, refl)) (λ r ys p h. h)
-      (definition_exact levels_left x)
-  turn _ = turn_as the_section (section_at levels_left) (λ rest. refl) (λ y h. h) section_declares (λ r ys p h. h) (section_exact levels_left)
+declaration_member : (levels_left : ℕ) → Member IsDeclaration Any Never levels_left (declaration levels_left) (λ x. true)
+    (declaration_at levels_left)
+unfolding declaration
+declaration_member levels_left =
+    each_member refl (λ x rest. refl) (λ r p h. section_case h.1) (λ r xs p h. lift r xs p h) (declaration_exact levels_left) where
+      lift : (r : ℕ) (xs : List Terminal) (p : Declaration) → IsDeclaration r xs p → IsDeclaration (suc (suc r)) xs p
+      lift r (free x ∷ ys) p h = (h.0, more_definition x r ys h.0 h.1, h.2)
+      lift r _ p h = (h.0, section_more (section_more h.1), h.2)
 
 pub declaration_shrinks : (levels_left : ℕ) → Shrinks (push (declaration levels_left))
 declaration_shrinks levels_left = step_shrinks (stepping (declaration_member levels_left))
 
 -- ---- whole texts
 
-with_first : (r : ℕ) (f g : List Terminal) (p : Declaration) (ps : List Declaration) → IsDeclaration r f p → IsText r g ps → IsText r (f ++ g) (p ∷ ps)
+with_first : (r : ℕ) (f g : List Terminal) (p : Declaration) (ps : List Declaration) → IsDeclaration r f p → IsText r g ps →
+    IsText r (f ++ g) (p ∷ ps)
 with_first r (free x ∷ ys) g p ps h k = rw h.2 (k.0, a_definition (is_definition x r ys h.0 h.1) k.1)
-with_first r [] g p ps h k = absurd (section_case h.1)
 with_first r _ g p ps h k = rw h.2 (_, a_section h.1 k.1)
 
 text_of : (r : ℕ) (xs : List Terminal) (ds : List Declaration) → AreAll IsDeclaration r xs ds → IsText r xs ds
@@ -249,23 +190,21 @@ all_declarations (a_definition h k) = some (definition_declares h) (all_declarat
 -- a whole text is read exactly
 pub declarations_exact : (levels_left : ℕ) → Exact IsText (λ x. ⊥) levels_left (declarations levels_left)
 unfolding declarations
-declarations_exact levels_left = exact_as text_of (λ r xs ds h. all_declarations h.1) (λ x h. h) (members_exact (declaration_member levels_left))
+declarations_exact levels_left =
+    exact_as text_of (λ r xs ds h. all_declarations h.1) (λ x h. h) (members_exact (declaration_member levels_left))
 
--- nothing is left where a text is read
-pub all_read : (levels_left : ℕ) (xs : List Terminal) (ds : List Declaration) (rest : List Terminal) → declarations levels_left xs ≡ Ok (ds, rest) → rest ≡ []
-unfolding declarations declaration
-all_read levels_left xs ds [] h = refl
-all_read levels_left xs ds (x ∷ rest) h =
-    let none : push (declaration levels_left) ds (x ∷ rest) ≡ None = no_step_left (declaration_shrinks levels_left) [] xs ds (x ∷ rest) h in
-    cc
+-- what is read as a whole text derives so, and nothing is left
+pub whole_text : (levels_left : ℕ) (xs : List Terminal) (ds : List Declaration) (rest : List Terminal) →
+    declarations levels_left xs ≡ Ok (ds, rest) →
+    (rest ≡ []) × IsText levels_left xs ds
+unfolding declarations
+whole_text levels_left = whole_derives (declarations_exact levels_left) (ends_members (declaration_member levels_left))
 
--- what is read as a whole text derives so
-pub declarations_derive : (levels_left : ℕ) (xs : List Terminal) (ds : List Declaration) (rest : List Terminal) → declarations levels_left xs ≡ Ok (ds, rest) →
+pub declarations_derive : (levels_left : ℕ) (xs : List Terminal) (ds : List Declaration) (rest : List Terminal) →
+    declarations levels_left xs ≡ Ok (ds, rest) →
     IsText levels_left xs ds
-declarations_derive levels_left xs ds rest h =
-    let front = taken xs ((declarations_exact levels_left).run xs) ds rest h in
-    let whole : xs ≡ front.0 = front.1 ∙ ap (λ r. front.0 ++ r) (all_read levels_left xs ds rest h) ∙ append-nil front.0 in
-    rw whole front.2
+declarations_derive levels_left xs ds rest h = (whole_text levels_left xs ds rest h).1
 
-pub declarations_read : (levels_left : ℕ) (xs : List Terminal) (ds : List Declaration) → IsText levels_left xs ds → declarations levels_left xs ≡ Ok (ds, [])
-declarations_read levels_left xs ds h = reads_all (declarations_exact levels_left) levels_left (omega arith) xs ds h
+pub declarations_read : (levels_left : ℕ) (xs own : List Terminal) (ds : List Declaration) → AreDeclarations levels_left xs own ds →
+    declarations levels_left xs ≡ Ok (ds, [])
+declarations_read levels_left xs own ds h = reads_all (declarations_exact levels_left) levels_left (omega arith) xs ds (own, h)

@@ -2,55 +2,27 @@
 use Rattle.std.proofs.Common.{◌≡◌, ℕ, zero, suc, ◌<◌, true, false, List, [], ◌∷◌, ◌++◌, refl, ap, sym, ◌∙◌, append_assoc, arith}
 use Rattle.std.proofs.lemmas.List.{append-nil}
 use Rattle.std.specs.Prelude.{Option, Some, None, codes}
-use Rattle.tsl_text.specs.declared.TokenKind.TheVariants.{OpenRound, CloseRound, And, Or, Arrow, BothArrow}
-use Rattle.token_readers.specs.Readers.{found_or_wrong}
+use Rattle.tsl_text.specs.declared.TokenKind.TheVariants.{OpenRound, CloseRound, CloseSquare, CloseBrace, And, Or, Arrow, BothArrow, Equals}
+use Rattle.tsl_text.specs.declared.TokenKind.TheVariants.{Semicolon}
+use Rattle.token_readers.specs.Readers.{Reader, closed_by}
 use Rattle.token_readers.specs.Exact.{Grammar, Begins, Exact}
 use Rattle.token_readers.proofs.Runs.{exact_map, exact_as}
-use Rattle.token_readers.proofs.Then.{Any, IsClosed, lift_closed, closed_exact}
-use Rattle.token_readers.proofs.Terminals.{Turn, by_first, end_wrong, end_as, turn_wrong, turn_deep, turn_alone, turn_takes, turn_as}
+use Rattle.token_readers.proofs.Then.{Any, Tells, IsClosed, lift_closed, closed_exact}
+use Rattle.token_readers.proofs.Terminals.{Turn, by_first, end_wrong, end_as, turn_of, turn_wrong, turn_deep, turn_alone, turn_takes}
+use Rattle.token_readers.proofs.Terminals.{turn_as}
 use Rattle.token_readers.proofs.Levels.{Below, Up, lift_up, exact_up, turn_below}
-use Rattle.token_readers.proofs.Iterates.{Steps, stop, more, Stepping, iterate_exact}
+use Rattle.token_readers.proofs.Iterates.{Steps, stop, more, At, stays, goes, Stepping, iterate_exact}
 use Rattle.token_readers.proofs.Lists.{AreAll, none, some}
 use Rattle.spec_syntax.specs.declared.syntax.Word.TheVariants.{U, W, R}
 use Rattle.spec_syntax.specs.Syntax.{Terminal, free, word, mark, TermSyntax, alone, applied, grouped_term, no_terms}
-use Rattle.spec_syntax.specs.Grammar.{
-  IsTerm,
-  signal,
-  constant,
-  application,
-  brackets,
-  AreArguments,
-  one_argument,
-  more_arguments,
-  IsArgument,
-  signal_argument,
-  constant_argument,
-  brackets_argument,
-  in_brackets,
-}
-use Rattle.spec_syntax.specs.Reading.{
-  is_close_round,
-  Level,
-  bracketed_term,
-  begins_term,
-  opened,
-  Arguments,
-  fresh,
-  empty,
-  name_last,
-  term_last,
-  complete,
-  with_name,
-  with_term,
-  with_brackets,
-  argument,
-  starts_argument,
-  arguments_of,
-  after_name,
-  term_named,
-  term_with,
-}
-use Rattle.spec_syntax.proofs.Lift.{lift_term}
+use Rattle.spec_syntax.specs.Grammar.{IsTerm, signal, constant, application, brackets, AreArguments, one_argument, more_arguments}
+use Rattle.spec_syntax.specs.Grammar.{IsArgument, signal_argument, constant_argument, brackets_argument, in_brackets}
+use Rattle.spec_syntax.specs.declared.syntax.Closer.{Closer}
+use Rattle.spec_syntax.specs.declared.syntax.Closer.TheVariants.{Round, Square, Brace, Equals as EqualsAfter, Semicolon as SemicolonAfter}
+use Rattle.spec_syntax.specs.Reading.{closes, Level, bracketed_term, begins_term, opened, Arguments, fresh, empty, name_last, term_last}
+use Rattle.spec_syntax.specs.Reading.{complete, with_name, with_term, with_brackets, argument, argument_wanted, arguments_of, after_name}
+use Rattle.spec_syntax.specs.Reading.{term_named, term_with}
+use Rattle.spec_syntax.proofs.MoreLevels.{term_more}
 
 -- how strongly a terminal ties to the form before it: an argument most, and what ends a form not at all
 abbrev pub tie : Terminal → ℕ
@@ -71,49 +43,54 @@ Below_tie n x = tie x < n
 abbrev pub TermExact : ℕ → Level → Type 0
 TermExact levels_left l = Exact IsTerm (Below_tie 6) levels_left l.term
 
-pub lift_terms : (r : ℕ) (xs : List Terminal) (t : TermSyntax) → IsTerm r xs t → IsTerm (suc (suc r)) xs t
-lift_terms r xs t h = lift_term (omega arith) h
+-- the terminals that close a form
+abbrev pub closer_mark : Closer → Terminal
+closer_mark Round = mark CloseRound
+closer_mark Square = mark CloseSquare
+closer_mark Brace = mark CloseBrace
+closer_mark EqualsAfter = mark Equals
+closer_mark SemicolonAfter = mark Semicolon
 
--- a closing bracket ends each form
-pub round_loose : (n : ℕ) → (x : Terminal) → is_close_round x ≡ true → tie x < suc n
-round_loose n (mark CloseRound) h = omega arith
-round_loose n _ h = cc
+pub tells : (closer : Closer) → Tells (closes closer) (closer_mark closer)
+tells closer = record { yes = yes closer; only = only closer } where
+  yes : (c : Closer) → closes c (closer_mark c) ≡ true
+  yes Round = refl
+  yes _ = refl
 
-pub is_round : (x : Terminal) → is_close_round x ≡ true → x ≡ mark CloseRound
-is_round (mark CloseRound) h = refl
-is_round _ h = cc
+  only : (c : Closer) (x : Terminal) → closes c x ≡ true → x ≡ closer_mark c
+  only Round (mark CloseRound) e = refl
+  only Square (mark CloseSquare) e = refl
+  only Brace (mark CloseBrace) e = refl
+  only EqualsAfter (mark Equals) e = refl
+  only SemicolonAfter (mark Semicolon) e = refl
+  only _ _ e = cc
 
--- a form in brackets after the opening one, as in the grammar
-pub closed_round : {V : Type 0} (Is : Grammar Terminal V) (r : ℕ) (xs : List Terminal) (v : V) → IsClosed is_close_round Is r xs v →
-    (inner : List Terminal) × (xs ≡ inner ++ mark CloseRound ∷ []) × Is r inner v
-closed_round Is r xs v h =
-    let closer = h.second in
-    (h.front, h.split ∙ ap (λ ys. h.front ++ ys) (closer.1 ∙ ap (λ x. x ∷ []) (is_round closer.0 closer.2)), rw closer.3 h.first)
+lift_terms : (r : ℕ) (xs : List Terminal) (t : TermSyntax) → IsTerm r xs t → IsTerm (suc (suc r)) xs t
+lift_terms r xs t h = term_more (term_more h)
 
-pub round_closed : {V : Type 0} (Is : Grammar Terminal V) (r : ℕ) (xs : List Terminal) (v : V) → Is r xs v →
-    IsClosed is_close_round Is r (xs ++ mark CloseRound ∷ []) v
-round_closed Is r xs v h =
-    record { value = v; front = xs; tail = mark CloseRound ∷ []; split = refl; first = h; second = (mark CloseRound, refl, refl, refl) }
+-- a term and what closes it
+pub closed_term : (closer : Closer) → tie (closer_mark closer) < 6 → {levels_left : ℕ} {reader : Reader Terminal TermSyntax} →
+    Exact IsTerm (Below_tie 6) levels_left reader →
+    Exact (IsClosed (closer_mark closer) IsTerm) Any levels_left (closed_by (closes closer) reader)
+closed_term closer ends = closed_exact (tells closer) ends lift_terms
 
 -- a term of the level below and its closing bracket
 abbrev pub IsBracketed : Grammar Terminal TermSyntax
-IsBracketed = Up (IsClosed is_close_round IsTerm)
+IsBracketed = Up (IsClosed (mark CloseRound) IsTerm)
 
-pub brackets_exact : (k : ℕ) (l : Level) → TermExact k l → Exact (IsClosed is_close_round IsTerm) Any k (bracketed_term l)
-brackets_exact k l h = closed_exact is_close_round (mark CloseRound) refl (round_loose 5) lift_terms h
+brackets_exact : (k : ℕ) (l : Level) → TermExact k l → Exact (IsClosed (mark CloseRound) IsTerm) Any k (bracketed_term l)
+brackets_exact k l = closed_term Round (omega arith)
 
 lift_brackets : (r : ℕ) (xs : List Terminal) (t : TermSyntax) → IsBracketed r xs t → IsBracketed (suc (suc r)) xs t
-lift_brackets = lift_up (IsClosed is_close_round IsTerm) (lift_closed is_close_round IsTerm lift_terms)
+lift_brackets = lift_up (IsClosed (mark CloseRound) IsTerm) (lift_closed (mark CloseRound) IsTerm lift_terms)
 
 term_begins : {r : ℕ} {xs : List Terminal} {t : TermSyntax} → IsTerm r xs t → (ys : List Terminal) → begins_term (xs ++ ys) ≡ true
 term_begins (signal x) ys = refl
-term_begins (constant c) ys = refl
-term_begins (application f h) ys = refl
-term_begins (brackets h) ys = refl
+term_begins _ ys = refl
 
 bracketed_begins : (r : ℕ) (xs : List Terminal) (t : TermSyntax) → IsBracketed r xs t → begins_term xs ≡ true
 bracketed_begins zero xs t h = absurd h
-bracketed_begins (suc r) xs t h = rw h.split (term_begins h.first h.tail)
+bracketed_begins (suc r) xs t h = rw h.1 (term_begins h.2 (mark CloseRound ∷ []))
 
 -- ---- after a name and an opening bracket
 
@@ -124,13 +101,12 @@ IsOpened r xs o = (t : TermSyntax) × IsBracketed r xs t × (o ≡ Some t)
 some_opened : (levels_left : ℕ) → Begins (IsOpened levels_left) []
 some_opened levels_left = record { ending = mark CloseRound ∷ []; value = None; derives = (refl, refl) }
 
-as_opened : (r : ℕ) (xs : List Terminal) (t : TermSyntax) → IsBracketed r xs t → IsOpened r xs (Some t)
-as_opened r (mark CloseRound ∷ ys) t h = let begins : begins_term (mark CloseRound ∷ ys) ≡ true =
-    bracketed_begins r (mark CloseRound ∷ ys) t h in cc
-as_opened r _ t h = (t, h, refl)
-
 not_opened : (r : ℕ) (xs : List Terminal) (t : TermSyntax) → begins_term xs ≡ false → IsBracketed r xs t → ⊥
 not_opened r xs t e h = let begins : begins_term xs ≡ true = bracketed_begins r xs t h in cc
+
+as_opened : (r : ℕ) (xs : List Terminal) (t : TermSyntax) → IsBracketed r xs t → IsOpened r xs (Some t)
+as_opened r (mark CloseRound ∷ ys) t h = absurd (not_opened r (mark CloseRound ∷ ys) t refl h)
+as_opened r _ t h = (t, h, refl)
 
 needs_room : (r : ℕ) (xs : List Terminal) (t : TermSyntax) → IsBracketed r xs t → 0 < r
 needs_room zero xs t h = absurd h
@@ -147,26 +123,19 @@ opened_exact zero None h = by_first (end_wrong refl (some_opened 0) (λ r o e. n
   turn : (x : Terminal) → Turn IsOpened Any 0 (opened None) x
   turn (mark CloseRound) = turn_alone None (λ rest. refl) (λ r. (refl, refl)) (λ r ys o e. e)
   turn (mark OpenRound) =
+      let in_two = grouped_term (alone (codes "a")) in
+      let ending = a ∷ mark CloseRound ∷ mark CloseRound ∷ [] in
       turn_deep (λ rest. refl) (some_opened 0)
       (record {
-        ending = a ∷ mark CloseRound ∷ mark CloseRound ∷ [];
-        value = Some (grouped_term (alone (codes "a")));
-        derives = (
-          grouped_term (alone (codes "a")),
-          round_closed IsTerm 1 (mark OpenRound ∷ a ∷ mark CloseRound ∷ []) (grouped_term (alone (codes "a")))
-              (brackets (signal (codes "a"))),
-          refl,
-        );
+        ending = ending;
+        value = Some in_two;
+        derives =
+            (in_two, (in_brackets (a ∷ []), refl, brackets (signal (codes "a"))), refl);
       })
       (λ r ys o e. needs_room r (mark OpenRound ∷ ys) e.0 e.1)
   turn (free x) =
       turn_deep (λ rest. refl) (some_opened 0)
-      (record {
-        ending = mark CloseRound ∷ [];
-        value = Some (alone x);
-        derives =
-            (alone x, round_closed IsTerm 1 (free x ∷ []) (alone x) (signal x), refl);
-      })
+      (record { ending = mark CloseRound ∷ []; value = Some (alone x); derives = (alone x, (free x ∷ [], refl, signal x), refl) })
       (λ r ys o e. needs_room r (free x ∷ ys) e.0 e.1)
   turn _ = turn_wrong (λ rest. refl) (some_opened 0) (λ r ys o e. not_opened r _ e.0 refl e.1)
 opened_exact (suc k) (Some l) h =
@@ -177,7 +146,7 @@ opened_exact (suc k) (Some l) h =
 
       turn : (x : Terminal) → Turn IsOpened Any (suc k) (opened (Some l)) x
       turn (mark CloseRound) = turn_alone None (λ rest. refl) (λ r. (refl, refl)) (λ r ys o e. e)
-      turn _ = turn_as (λ t. Some t) (bracketed_term l) (λ rest. refl) (λ y e. e) as_opened (λ r ys o e. e) inner
+      turn _ = turn_as (λ t. Some t) (bracketed_term l) (λ rest. refl) (λ y e. e) as_opened (λ r ys o e. e) (turn_of inner _)
 
 -- ---- arguments
 
@@ -189,111 +158,60 @@ IsArgumentStep (term_last ts) r (mark OpenRound ∷ ys) t = (u : TermSyntax) × 
 IsArgumentStep s r (mark OpenRound ∷ ys) t = (o : Option TermSyntax) × IsOpened r ys o × (t ≡ with_brackets o s)
 IsArgumentStep s r _ t = ⊥
 
--- the levels that are left below, which a term needs
-low_term : (levels_left : ℕ) → Begins (IsClosed is_close_round IsTerm (suc levels_left)) []
-low_term levels_left = record {
-  ending = a ∷ mark CloseRound ∷ [];
-  value = alone (codes "a");
-  derives =
-      round_closed IsTerm (suc levels_left) (a ∷ []) (alone (codes "a")) (signal (codes "a"));
-}
+-- a term is there with the levels that are left below
+low_term : (levels_left : ℕ) → Begins (IsClosed (mark CloseRound) IsTerm (suc levels_left)) []
+low_term levels_left =
+    record { ending = a ∷ mark CloseRound ∷ []; value = alone (codes "a"); derives = (a ∷ [], refl, signal (codes "a")) }
 
 lift_opened : (r : ℕ) (xs : List Terminal) (o : Option TermSyntax) → IsOpened r xs o → IsOpened (suc (suc r)) xs o
 lift_opened r (mark CloseRound ∷ ys) o h = h
-lift_opened r [] o h = (h.0, lift_brackets r [] h.0 h.1, h.2)
-lift_opened r (x ∷ ys) o h = (h.0, lift_brackets r _ h.0 h.1, h.2)
-
-lift_step : (s : Arguments) (r : ℕ) (xs : List Terminal) (t : Arguments) → IsArgumentStep s r xs t → IsArgumentStep s (suc (suc r)) xs t
-lift_step fresh r (free x ∷ ys) t h = h
-lift_step (name_last ts y) r (free x ∷ ys) t h = h
-lift_step (term_last ts) r (free x ∷ ys) t h = h
-lift_step (term_last ts) r (mark OpenRound ∷ ys) t h = (h.0, lift_brackets r ys h.0 h.1, h.2)
-lift_step fresh r (mark OpenRound ∷ ys) t h = (h.0, lift_opened r ys h.0 h.1, h.2)
-lift_step (name_last ts y) r (mark OpenRound ∷ ys) t h = (h.0, lift_opened r ys h.0 h.1, h.2)
-lift_step _ r _ t h = absurd h
-
-step_begins : (s : Arguments) (r : ℕ) (xs : List Terminal) (t : Arguments) → IsArgumentStep s r xs t →
-    (x : Terminal) × (ys : List Terminal) × (xs ≡ x ∷ ys) × (starts_argument s x ≡ true)
-step_begins fresh r (free x ∷ ys) t h = (free x, ys, refl, refl)
-step_begins (name_last ts y) r (free x ∷ ys) t h = (free x, ys, refl, refl)
-step_begins (term_last ts) r (free x ∷ ys) t h = (free x, ys, refl, refl)
-step_begins (term_last ts) r (mark OpenRound ∷ ys) t h = (mark OpenRound, ys, refl, refl)
-step_begins fresh r (mark OpenRound ∷ ys) t h = (mark OpenRound, ys, refl, refl)
-step_begins (name_last ts y) r (mark OpenRound ∷ ys) t h = (mark OpenRound, ys, refl, refl)
-step_begins _ r _ t h = absurd h
-
-pub no_step : (low : Option Level) (s : Arguments) (x : Terminal) (rest : List Terminal) → starts_argument s x ≡ false →
-    argument low s (x ∷ rest) ≡ None
-unfolding argument
-no_step low empty x rest h = refl
-no_step low fresh (free x) rest h = cc
-no_step low (name_last ts y) (free x) rest h = cc
-no_step low (term_last ts) (free x) rest h = cc
-no_step low fresh (mark OpenRound) rest h = cc
-no_step low (name_last ts y) (mark OpenRound) rest h = cc
-no_step low (term_last ts) (mark OpenRound) rest h = cc
-no_step low fresh _ rest h = refl
-no_step low (name_last ts y) _ rest h = refl
-no_step low (term_last ts) _ rest h = refl
-
-pub some_step : (low : Option Level) (s : Arguments) (x : Terminal) (rest : List Terminal) → starts_argument s x ≡ true →
-    argument low s (x ∷ rest) ≡ Some (found_or_wrong (argument low s (x ∷ rest)) (x ∷ rest))
-unfolding argument
-some_step low fresh (free x) rest h = refl
-some_step low (name_last ts y) (free x) rest h = refl
-some_step low (term_last ts) (free x) rest h = refl
-some_step low fresh (mark OpenRound) rest h = refl
-some_step low (name_last ts y) (mark OpenRound) rest h = refl
-some_step low (term_last ts) (mark OpenRound) rest h = refl
-some_step low empty x rest h = cc
-some_step low _ _ rest h = cc
-
-pub at_end : (low : Option Level) (s : Arguments) → argument low s [] ≡ None
-unfolding argument
-at_end low empty = refl
-at_end low fresh = refl
-at_end low (name_last ts y) = refl
-at_end low (term_last ts) = refl
-
-turn : (levels_left : ℕ) (low : Option Level) → Below TermExact levels_left low → (s : Arguments) (x : Terminal) → starts_argument s x ≡ true →
-    Turn (IsArgumentStep s) Any levels_left (λ xs. found_or_wrong (argument low s xs) xs) x
-unfolding argument
-turn levels_left low b fresh (free x) h = turn_alone (with_name fresh x) (λ rest. refl) (λ r. (refl, refl)) (λ r ys t e. e)
-turn levels_left low b (name_last ts y) (free x) h = turn_alone (with_name (name_last ts y) x) (λ rest. refl) (λ r. (refl, refl)) (λ r ys t e. e)
-turn levels_left low b (term_last ts) (free x) h = turn_alone (with_name (term_last ts) x) (λ rest. refl) (λ r. (refl, refl)) (λ r ys t e. e)
-turn levels_left low b fresh (mark OpenRound) h =
-    turn_takes (λ o. with_brackets o fresh) (opened low) (λ rest. refl) (λ y e. e) (λ r ys o e. (o, e, refl)) (λ r ys t e. e)
-    (opened_exact levels_left low b)
-turn levels_left low b (name_last ts y) (mark OpenRound) h =
-    turn_takes (λ o. with_brackets o (name_last ts y)) (opened low) (λ rest. refl) (λ z e. e) (λ r ys o e. (o, e, refl)) (λ r ys t e. e)
-    (opened_exact levels_left low b)
-turn levels_left low b (term_last ts) (mark OpenRound) h =
-    turn_below {Holds = TermExact} (with_term (term_last ts)) low bracketed_term brackets_exact b (λ rest. refl) (λ y e. e)
-    (record { ending = a ∷ []; value = with_name (term_last ts) (codes "a"); derives = (refl, refl) }) (low_term levels_left)
-    (λ r ys u e. (u, e, refl)) (λ r ys t e. e)
-turn levels_left low b empty x h = cc
-turn levels_left low b _ _ h = cc
+lift_opened r _ o h = (h.0, lift_brackets r _ h.0 h.1, h.2)
 
 pub stepping : (levels_left : ℕ) (low : Option Level) → Below TermExact levels_left low →
-    Stepping IsArgumentStep (λ s. Any) (Below_tie 6) levels_left (argument low) starts_argument (λ s xs. found_or_wrong (argument low s xs) xs)
+    Stepping IsArgumentStep (λ s. Any) (Below_tie 6) levels_left (argument low)
+unfolding argument
 stepping levels_left low b = record {
-  at_end = at_end low;
-  none = no_step low;
-  some = some_step low;
-  begins = step_begins;
-  lift = lift_step;
-  follows = λ s r xs t h x e. tt;
+  at_end = at_end;
+  nothing = nothing;
+  at = at;
+  lift = lift;
+  follows = λ s r xs t h x ys u k. tt;
   stops = stops;
   weaker = λ s x h. tt;
-  turn = turn levels_left low b;
 } where
-  stops : (s : Arguments) (x : Terminal) → tie x < 6 → starts_argument s x ≡ false
-  stops empty x h = refl
-  stops s (free x) h = absurd (omega (arith, h))
-  stops s (mark OpenRound) h = absurd (omega (arith, h))
-  stops fresh _ h = refl
-  stops (name_last ts y) _ h = refl
-  stops (term_last ts) _ h = refl
+  at_end : (s : Arguments) → argument low s [] ≡ None
+  at_end empty = refl
+  at_end _ = refl
+
+  nothing : (s : Arguments) (r : ℕ) (t : Arguments) → IsArgumentStep s r [] t → ⊥
+  nothing empty r t h = h
+  nothing _ r t h = h
+
+  at : (s : Arguments) (x : Terminal) → At (IsArgumentStep s) Any levels_left (argument low s) x
+  at empty x = stays (λ rest. refl) (λ r ys t h. h)
+  at (term_last ts) (mark OpenRound) = goes (argument_wanted low (term_last ts)) (λ rest. refl)
+      (turn_below {Holds = TermExact} (with_term (term_last ts)) low bracketed_term brackets_exact b (λ rest. refl) (λ y e. e)
+      (record { ending = a ∷ []; value = with_name (term_last ts) (codes "a"); derives = (refl, refl) }) (low_term levels_left)
+      (λ r ys u e. (u, e, refl)) (λ r ys t e. e))
+  at s (free x) =
+      goes (argument_wanted low s) (λ rest. refl) (turn_alone (with_name s x) (λ rest. refl) (λ r. (refl, refl)) (λ r ys t e. e))
+  at s (mark OpenRound) = goes (argument_wanted low s) (λ rest. refl)
+      (turn_takes (λ o. with_brackets o s) (opened low) (λ rest. refl) (λ y e. e) (λ r ys o e. (o, e, refl)) (λ r ys t e. e)
+      (opened_exact levels_left low b))
+  at s x = stays (λ rest. refl) (λ r ys t h. h)
+
+  lift : (s : Arguments) (r : ℕ) (xs : List Terminal) (t : Arguments) → IsArgumentStep s r xs t → IsArgumentStep s (suc (suc r)) xs t
+  lift empty r xs t h = h
+  lift (term_last ts) r (mark OpenRound ∷ ys) t h = (h.0, lift_brackets r ys h.0 h.1, h.2)
+  lift s r (free x ∷ ys) t h = h
+  lift s r (mark OpenRound ∷ ys) t h = (h.0, lift_opened r ys h.0 h.1, h.2)
+  lift s r xs t h = h
+
+  stops : (s : Arguments) (x : Terminal) → tie x < 6 → (rest : List Terminal) → argument low s (x ∷ rest) ≡ None
+  stops empty x h rest = refl
+  stops s (free x) h rest = absurd (omega (arith, h))
+  stops s (mark OpenRound) h rest = absurd (omega (arith, h))
+  stops s x h rest = refl
 
 -- ---- the grammar of arguments
 
@@ -327,29 +245,21 @@ Decoded (term_last ts) r xs o = (us : List TermSyntax) × AreAll IsArgument r xs
 
 bracket_argument : (r : ℕ) (xs : List Terminal) (t : TermSyntax) → IsBracketed r xs t → IsArgument r (mark OpenRound ∷ xs) (grouped_term t)
 bracket_argument zero xs t h = absurd h
-bracket_argument (suc r) xs t h = let inner = closed_round IsTerm r xs t h in rw inner.1 (brackets_argument inner.2)
+bracket_argument (suc r) xs t h = rw h.1 (brackets_argument h.2)
 
 opened_bracket : (r : ℕ) (xs : List Terminal) (t : TermSyntax) → IsOpened r xs (Some t) → IsBracketed r xs t
 opened_bracket r (mark CloseRound ∷ ys) t h = let never = h.1 in cc
-opened_bracket r [] t h = let same : h.0 ≡ t = cc in rw (← same) h.1
-opened_bracket r (x ∷ ys) t h = let same : h.0 ≡ t = cc in rw (← same) h.1
+opened_bracket r _ t h = let same : h.0 ≡ t = (let both = h.2 in cc) in rw (← same) h.1
 
 opened_empty : (r : ℕ) (xs : List Terminal) → IsOpened r xs None → xs ≡ mark CloseRound ∷ []
 opened_empty r (mark CloseRound ∷ ys) h = ap (λ zs. mark CloseRound ∷ zs) h.0
-opened_empty r [] h = let never = h.2 in cc
-opened_empty r (x ∷ ys) h = let never = h.2 in cc
+opened_empty r _ h = let never = h.2 in cc
 
 -- further arguments after one
 one_more : (r : ℕ) (ts : List TermSyntax) (t : TermSyntax) (xs ys : List Terminal) (o : Option (List TermSyntax)) → IsArgument r xs t →
     Decoded (term_last (ts ++ t ∷ [])) r ys o →
     (us : List TermSyntax) × AreAll IsArgument r (xs ++ ys) us × (o ≡ Some (ts ++ us))
 one_more r ts t xs ys o h k = (t ∷ k.0, some h k.1, k.2 ∙ ap (λ us. Some us) (append_assoc ts (t ∷ []) k.0))
-
--- a name that is open
-name_more : (r : ℕ) (ts : List TermSyntax) (x : List ℕ) (ys : List Terminal) (o : Option (List TermSyntax)) →
-    Decoded (name_last ts x) r ys o →
-    (us : List TermSyntax) × AreAll IsArgument r (free x ∷ ys) us × (o ≡ Some (ts ++ us))
-name_more r ts x ys o k = k
 
 by_brackets : (r : ℕ) (ts : List TermSyntax) (x : List ℕ) (xs ys : List Terminal) (found : Option TermSyntax)
     (o : Option (List TermSyntax)) → IsOpened r xs found →
@@ -358,8 +268,8 @@ by_brackets r ts x xs ys None o h k =
     rw (opened_empty r xs h)
     (one_more r ts (applied x no_terms) (free x ∷ mark OpenRound ∷ mark CloseRound ∷ []) ys o (constant_argument x) k)
 by_brackets r ts x xs ys (Some t) o h k =
-    let further = one_more r (ts ++ alone x ∷ []) (grouped_term t) (mark OpenRound ∷ xs) ys o (bracket_argument r xs t (opened_bracket r xs t h)) k in
-    (alone x ∷ further.0, some (signal_argument x) further.1, further.2 ∙ ap (λ us. Some us) (append_assoc ts (alone x ∷ []) further.0))
+    one_more r ts (alone x) (free x ∷ []) (mark OpenRound ∷ (xs ++ ys)) o (signal_argument x)
+    (one_more r (ts ++ alone x ∷ []) (grouped_term t) (mark OpenRound ∷ xs) ys o (bracket_argument r xs t (opened_bracket r xs t h)) k)
 
 first_brackets : (r : ℕ) (xs ys : List Terminal) (found : Option TermSyntax) (o : Option (List TermSyntax)) → IsOpened r xs found →
     Decoded (with_brackets found fresh) r ys o → AreAfterName r (mark OpenRound ∷ (xs ++ ys)) o
@@ -374,14 +284,10 @@ after r fresh t (free x ∷ ys) g o h k =
     let named : Decoded (name_last [] x) r g o = rw h.1 at k in
     rw h.0 (in_order r (free x ∷ g) named.0 named.1 o named.2 (λ e. cc))
 after r (name_last ts y) t (free x ∷ ys) g o h k =
-    let named : Decoded (name_last (ts ++ alone y ∷ []) x) r g o = rw h.1 at k in
-    rw h.0 (alone y ∷ named.0, some (signal_argument y) named.1, named.2 ∙ ap (λ us. Some us) (append_assoc ts (alone y ∷ []) named.0))
-after r (term_last ts) t (free x ∷ ys) g o h k =
-    let named : Decoded (name_last ts x) r g o = rw h.1 at k in
-    rw h.0 named
+    rw h.0 (one_more r ts (alone y) (free y ∷ []) (free x ∷ g) o (signal_argument y) (rw h.1 at k))
+after r (term_last ts) t (free x ∷ ys) g o h k = let named : Decoded (name_last ts x) r g o = rw h.1 at k in rw h.0 named
 after r (term_last ts) t (mark OpenRound ∷ ys) g o h k =
-    let further : Decoded (term_last (ts ++ grouped_term h.0 ∷ [])) r g o = rw h.2 at k in
-    one_more r ts (grouped_term h.0) (mark OpenRound ∷ ys) g o (bracket_argument r ys h.0 h.1) further
+    one_more r ts (grouped_term h.0) (mark OpenRound ∷ ys) g o (bracket_argument r ys h.0 h.1) (rw h.2 at k)
 after r fresh t (mark OpenRound ∷ ys) g o h k = first_brackets r ys g h.0 o h.1 (rw h.2 at k)
 after r (name_last ts x) t (mark OpenRound ∷ ys) g o h k = by_brackets r ts x ys g h.0 o h.1 (rw h.2 at k)
 after r _ t _ g o h k = absurd h
@@ -398,64 +304,37 @@ abbrev GoesOn : Arguments → Type 0
 GoesOn empty = ⊥
 GoesOn _ = Unit {0}
 
--- the steps that read some arguments
-record Encoded (r : ℕ) (s : Arguments) (xs : List Terminal) (us : List TermSyntax) : Type 0 where
-  pub state : Arguments
-  pub steps : Steps IsArgumentStep r s xs state
-  pub goes_on : GoesOn state
-  pub terms : complete state ≡ complete s ++ us
+name_step : (r : ℕ) (s : Arguments) (x : List ℕ) → GoesOn s → IsArgumentStep s r (free x ∷ []) (with_name s x)
+name_step r empty x h = h
+name_step r _ x h = (refl, refl)
 
-name_steps : (r : ℕ) (s : Arguments) (x : List ℕ) → GoesOn s → IsArgumentStep s r (free x ∷ []) (with_name s x)
-name_steps r fresh x h = (refl, refl)
-name_steps r (name_last ts y) x h = (refl, refl)
-name_steps r (term_last ts) x h = (refl, refl)
-name_steps r empty x h = absurd h
-
-term_steps : (r : ℕ) (s : Arguments) (xs : List Terminal) (t : TermSyntax) → GoesOn s → IsTerm r xs t →
+term_step : (r : ℕ) (s : Arguments) (xs : List Terminal) (t : TermSyntax) → GoesOn s → IsTerm r xs t →
     IsArgumentStep s (suc r) (in_brackets xs) (with_term s t)
-term_steps r fresh xs t h k = (Some t, as_opened (suc r) (xs ++ mark CloseRound ∷ []) t (round_closed IsTerm r xs t k), refl)
-term_steps r (name_last ts y) xs t h k = (Some t, as_opened (suc r) (xs ++ mark CloseRound ∷ []) t (round_closed IsTerm r xs t k), refl)
-term_steps r (term_last ts) xs t h k = (t, round_closed IsTerm r xs t k, refl)
-term_steps r empty xs t h k = absurd h
+term_step r empty xs t h k = h
+term_step r (term_last ts) xs t h k = (t, (xs, refl, k), refl)
+term_step r _ xs t h k = (Some t, as_opened (suc r) (xs ++ mark CloseRound ∷ []) t (xs, refl, k), refl)
 
-encode : (r : ℕ) (s : Arguments) → GoesOn s → (xs : List Terminal) (us : List TermSyntax) → AreAll IsArgument r xs us → Encoded r s xs us
-encode r s ok xs us none = record { state = s; steps = stop; goes_on = ok; terms = sym (append-nil (complete s)) }
+-- the steps that read some arguments
+encode : (r : ℕ) (s : Arguments) → GoesOn s → (xs : List Terminal) (us : List TermSyntax) → AreAll IsArgument r xs us →
+    (u : Arguments) × Steps IsArgumentStep r s xs u × GoesOn u × (complete u ≡ complete s ++ us)
+encode r s ok xs us none = (s, stop, ok, sym (append-nil (complete s)))
 encode r s ok xs us (some {g = g} {vs = vs} (signal_argument x) k) =
-    let e : Encoded r (with_name s x) g vs = encode r (with_name s x) tt g vs k in
-    record {
-      state = e.state;
-      steps = more (name_steps r s x ok) e.steps;
-      goes_on = e.goes_on;
-      terms = e.terms
-          ∙ append_assoc (complete s) (alone x ∷ []) vs;
-    }
+    let e = encode r (with_name s x) tt g vs k in
+    (e.0, more (name_step r s x ok) e.1, e.2, e.3 ∙ append_assoc (complete s) (alone x ∷ []) vs)
 encode r s ok xs us (some {g = g} {vs = vs} (constant_argument c) k) =
-    let e : Encoded r (term_last (complete s ++ applied c no_terms ∷ [])) g vs =
-    encode r (term_last (complete s ++ applied c no_terms ∷ [])) tt g vs k in
-    let call : IsArgumentStep (with_name s c) r (mark OpenRound ∷ mark CloseRound ∷ [])
-    (term_last (complete s ++ applied c no_terms ∷ [])) = (None, (refl, refl), refl) in
-    record {
-      state = e.state;
-      steps = more (name_steps r s c ok) (more {f = mark OpenRound ∷ mark CloseRound ∷ []} call e.steps);
-      goes_on =
-          e.goes_on;
-      terms = e.terms ∙ append_assoc (complete s) (applied c no_terms ∷ []) vs;
-    }
+    let called = term_last (complete s ++ applied c no_terms ∷ []) in
+    let e = encode r called tt g vs k in
+    let call : IsArgumentStep (with_name s c) r (mark OpenRound ∷ mark CloseRound ∷ []) called = (None, (refl, refl), refl) in
+    let both = more (name_step r s c ok) (more {f = mark OpenRound ∷ mark CloseRound ∷ []} call e.1) in
+    (e.0, both, e.2, e.3 ∙ append_assoc (complete s) (applied c no_terms ∷ []) vs)
 encode r s ok xs us (some {g = g} {vs = vs} (brackets_argument {levels_left = low} {xs = inner} {t = t} h) k) =
-    let e : Encoded r (with_term s t) g vs = encode r (with_term s t) tt g vs k in
-    record {
-      state = e.state;
-      steps = more (term_steps low s inner t ok h) e.steps;
-      goes_on = e.goes_on;
-      terms = e.terms
-          ∙ append_assoc (complete s) (grouped_term t ∷ []) vs;
-    }
+    let e = encode r (with_term s t) tt g vs k in
+    (e.0, more (term_step low s inner t ok h) e.1, e.2, e.3 ∙ append_assoc (complete s) (grouped_term t ∷ []) vs)
 
 some_complete : (s : Arguments) (t : TermSyntax) (ts : List TermSyntax) → GoesOn s → complete s ≡ t ∷ ts → Some (t ∷ ts) ≡ arguments_of s
 some_complete fresh t ts ok e = cc
-some_complete (name_last us x) t ts ok e = ap (λ vs. Some vs) (sym e)
-some_complete (term_last us) t ts ok e = ap (λ vs. Some vs) (sym e)
 some_complete empty t ts ok e = absurd ok
+some_complete _ t ts ok e = ap (λ vs. Some vs) (sym e)
 
 steps_after_name : (r : ℕ) (xs : List Terminal) (o : Option (List TermSyntax)) → AreAfterName r xs o →
     (s : Arguments) × Steps IsArgumentStep r fresh xs s × (o ≡ arguments_of s)
@@ -464,14 +343,14 @@ steps_after_name r xs o no_arguments =
     let call : IsArgumentStep fresh r (mark OpenRound ∷ mark CloseRound ∷ []) empty = (None, (refl, refl), refl) in
     (empty, more {f = mark OpenRound ∷ mark CloseRound ∷ []} call stop, refl)
 steps_after_name r xs o (some_arguments {t = t} {ts = ts} h) =
-    let e : Encoded r fresh xs (t ∷ ts) = encode r fresh tt xs (t ∷ ts) (all_arguments h) in
-    (e.state, e.steps, some_complete e.state t ts e.goes_on e.terms)
+    let e = encode r fresh tt xs (t ∷ ts) (all_arguments h) in
+    (e.0, e.1, some_complete e.0 t ts e.2 e.3)
 
-pub after_name_exact : (levels_left : ℕ) (low : Option Level) → Below TermExact levels_left low → Exact AreAfterName (Below_tie 6) levels_left (after_name low)
+pub after_name_exact : (levels_left : ℕ) (low : Option Level) → Below TermExact levels_left low →
+    Exact AreAfterName (Below_tie 6) levels_left (after_name low)
 unfolding after_name
-after_name_exact levels_left low b = exact_map arguments_of (decoded) steps_after_name (iterate_exact (stepping levels_left low b) fresh) where
-  decoded : (r : ℕ) (xs : List Terminal) (u : Arguments) → Steps IsArgumentStep r fresh xs u → AreAfterName r xs (arguments_of u)
-  decoded r xs u h = decode r fresh xs u h
+after_name_exact levels_left low b =
+    exact_map arguments_of (λ r xs u h. decode r fresh xs u h) steps_after_name (iterate_exact (stepping levels_left low b) fresh)
 
 -- ---- terms
 
@@ -486,7 +365,7 @@ term_case : {r : ℕ} {xs : List Terminal} {t : TermSyntax} → IsTerm r xs t �
 term_case (signal x) = (None, nothing, refl)
 term_case (constant c) = (Some [], no_arguments, refl)
 term_case (application {t = t} {ts = ts} f h) = (Some (t ∷ ts), some_arguments h, refl)
-term_case (brackets {levels_left = levels_left} {xs = xs} {t = t} h) = (t, round_closed IsTerm levels_left xs t h, refl)
+term_case (brackets {xs = xs} {t = t} h) = (t, (xs, refl, h), refl)
 
 term_of_name : (r : ℕ) (f : List ℕ) (xs : List Terminal) (o : Option (List TermSyntax)) → AreAfterName r xs o →
     IsTerm r (free f ∷ xs) (term_named f o)
@@ -497,11 +376,12 @@ term_of_name r f xs o (some_arguments h) = application f h
 case_term : (r : ℕ) (xs : List Terminal) (t : TermSyntax) → TermCase r xs t → IsTerm r xs t
 case_term r (free f ∷ ys) t h = rw h.2 (term_of_name r f ys h.0 h.1)
 case_term zero (mark OpenRound ∷ ys) t h = absurd h.1
-case_term (suc r) (mark OpenRound ∷ ys) t h = let inner = closed_round IsTerm r ys h.0 h.1 in rw (h.2, inner.1) (brackets inner.2)
+case_term (suc r) (mark OpenRound ∷ ys) t h = rw (h.2, h.1.1) (brackets h.1.2)
 case_term r _ t h = absurd h
 
 -- a term is read exactly
-pub term_exact : (levels_left : ℕ) (low : Option Level) → Below TermExact levels_left low → Exact IsTerm (Below_tie 6) levels_left (term_with low)
+pub term_exact : (levels_left : ℕ) (low : Option Level) → Below TermExact levels_left low →
+    Exact IsTerm (Below_tie 6) levels_left (term_with low)
 unfolding term_with
 term_exact levels_left low b =
     exact_as case_term (λ r xs t h. term_case h) (λ x h. h) (by_first (end_wrong refl some_term (λ r t h. h)) turn) where

@@ -2,6 +2,7 @@ mod Examples
 pub mod TreeLemmas
 pub mod ReadLemmas
 pub mod Lift
+pub mod MoreLevels
 pub mod Written
 pub mod ExactTerms
 pub mod ExactPrefixes
@@ -10,5 +11,4 @@ pub mod ExactSections
 pub mod ExactDeclarations
 pub mod ReadLoops
 pub mod FirstFaults
-pub mod Faults
 pub mod DeclarationLaws

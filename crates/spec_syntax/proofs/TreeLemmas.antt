@@ -2,7 +2,8 @@
 use Rattle.std.proofs.Common.{◌≡◌, List, [], ◌∷◌, refl, ap}
 use Rattle.sequence.proofs.Lists.{with_front}
 pub use Rattle.sequence.proofs.Lists.{with_front_push}
-use Rattle.spec_syntax.specs.Syntax.{TermSyntax, no_terms, more_terms, listed_terms, FormulaSyntax, no_formulas, more_formulas, listed_formulas}
+use Rattle.spec_syntax.specs.Syntax.{TermSyntax, no_terms, more_terms, listed_terms, FormulaSyntax, no_formulas, more_formulas}
+use Rattle.spec_syntax.specs.Syntax.{listed_formulas}
 
 pub terms_front_none : (front : List TermSyntax) → with_front more_terms front no_terms ≡ listed_terms front
 terms_front_none [] = refl

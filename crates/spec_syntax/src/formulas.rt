@@ -188,7 +188,7 @@ fn form_below<'a, 'b>(
 
 /// A form above this level.
 #[cycle(read)]
-#[tactic(auto, unfolding(crate::specs::Reading::right_with, crate::specs::Reading::formula_with))]
+#[tactic(auto, unfolding(crate::specs::Reading::above, crate::specs::Reading::right_with, crate::specs::Reading::formula_with))]
 pub(crate) fn form_with<'a, 'b>(
     alloc: Global,
     levels_left: u32,
@@ -287,6 +287,7 @@ fn operand_with<'a, 'b>(
 
 /// The further operands.
 #[cycle(read)]
+#[tactic(auto, using(crate::proofs::ReadLoops::members_read, crate::proofs::ReadLoops::further_shorter, crate::proofs::ReadLoops::further_shrinks))]
 fn operands<'a, 'b>(
     alloc: Global,
     levels_left: u32,

@@ -13,6 +13,7 @@ ghost use Rattle.spec_syntax.specs.Texts.{SomeTextBegins, NoTextBegins, IsNoText
 ghost use Rattle.spec_syntax.specs.Texts.{SomeDeclarationsBegin, NoDeclarationsBegin, AreNoDeclarations};
 
 /// A text of the grammar derives in one way, and it is one with more levels too, in the same way.
+#[tactic(auto, using(crate::proofs::ExactSections::one_tree, crate::proofs::ExactSections::more_room))]
 pub fn grammar_has_one_reading()
     ensures one { (levels_left : ℕ) (xs : List Terminal) (a b : List SectionSyntax) → AreSections levels_left xs a
         → AreSections levels_left xs b → a ≡ b }
@@ -22,6 +23,7 @@ pub fn grammar_has_one_reading()
 
 /// The tree of a formula, which keeps its brackets, tells the terminals that it is derived from, and
 /// how many levels it needs at least.
+#[tactic(auto, using(crate::proofs::Written::formula_is, crate::proofs::Written::formula_fits))]
 pub fn trees_tell_their_texts()
     ensures terminals { (levels_left : ℕ) (xs : List Terminal) (a : FormulaSyntax) → IsFormula levels_left xs a
         → xs ≡ written a }
@@ -30,6 +32,7 @@ pub fn trees_tell_their_texts()
 {}
 
 /// The reading functions read exactly the texts of the grammar.
+#[tactic(auto, using(crate::proofs::ExactSections::sections_derive, crate::proofs::ExactSections::sections_read))]
 pub fn reading_meets_the_grammar()
     ensures derived { (levels_left : ℕ) (xs : List Terminal) (a : List SectionSyntax)
         (rest : List Terminal)
@@ -66,6 +69,7 @@ pub fn deep_faults_are_the_first()
 
 /// A text of sections and definitions derives in one way, its sections from one list of terminals of
 /// their own; and it is a text with more levels too, in the same way.
+#[tactic(auto, using(crate::proofs::DeclarationLaws::one_list, crate::proofs::DeclarationLaws::one_own, crate::proofs::DeclarationLaws::more_room))]
 pub fn declarations_have_one_reading()
     ensures one { (levels_left : ℕ) (xs own other : List Terminal) (a b : List Declaration)
         → AreDeclarations levels_left xs own a → AreDeclarations levels_left xs other b → a ≡ b }
@@ -77,6 +81,7 @@ pub fn declarations_have_one_reading()
 
 /// The sections of a text derive from the terminals of their own. A text without a definition is its
 /// sections, and sections are such a text.
+#[tactic(auto, using(crate::proofs::DeclarationLaws::sections_derive, crate::proofs::DeclarationLaws::only_sections, crate::proofs::DeclarationLaws::sections_are_all))]
 pub fn sections_stand_alone()
     ensures derived { (levels_left : ℕ) (xs own : List Terminal) (a : List Declaration)
         → AreDeclarations levels_left xs own a → AreSections levels_left own (sections_among a) }
@@ -89,6 +94,7 @@ pub fn sections_stand_alone()
 
 /// What is read of a text tells its names in their order, and so do the sections for the terminals of
 /// their own.
+#[tactic(auto, using(crate::proofs::DeclarationLaws::all_names, crate::proofs::DeclarationLaws::own_names))]
 pub fn declarations_tell_their_names()
     ensures whole { (levels_left : ℕ) (xs own : List Terminal) (a : List Declaration)
         → AreDeclarations levels_left xs own a → free_texts xs ≡ flat_map declaration_texts a }
@@ -98,6 +104,7 @@ pub fn declarations_tell_their_names()
 {}
 
 /// The reading functions read exactly the texts of sections and definitions.
+#[tactic(auto, using(crate::proofs::ExactDeclarations::whole_text, crate::proofs::ExactDeclarations::declarations_read))]
 pub fn reading_meets_declarations()
     ensures derived { (levels_left : ℕ) (xs : List Terminal) (a : List Declaration) (rest : List Terminal)
         → declarations levels_left xs ≡ Ok (a, rest) → (rest ≡ []) × IsText levels_left xs a }

@@ -1,10 +1,9 @@
 //! Reading sections.
 
-ghost use Rattle.std.specs.Prelude.{◌≡◌, ◌<◌, ℕ, List, ◌∷◌, length, map, None, Some, Ok, IfOk};
+ghost use Rattle.std.specs.Prelude.{◌≡◌, ◌<◌, ℕ, List, [], ◌∷◌, ◌++◌, length, map, None, Some, Ok, IfOk};
 ghost use Rattle.std.specs.Prelude.{IfErr, IfSome, IfNone};
-ghost use Rattle.tsl_text.specs.declared.TokenKind.TheVariants.{Semicolon};
-ghost use Rattle.spec_syntax.specs.Syntax.{mark, FormulaSyntax, the_section};
-ghost use Rattle.spec_syntax.specs.Reading.{item, item_last, begins_item, formulas, items, side};
+ghost use Rattle.spec_syntax.specs.Syntax.{FormulaSyntax, the_section};
+ghost use Rattle.spec_syntax.specs.Reading.{item, begins_item, open_items, item_last, formulas, items, side};
 ghost use Rattle.spec_syntax.specs.Reading.{section_at, section, sections};
 ghost use Rattle.spec_syntax.specs.Reading.{name_at, parameters, body, definition};
 ghost use Rattle.spec_syntax.specs.Reading.{declaration_at, declaration, declarations};
@@ -34,11 +33,34 @@ fn begins_item(xs: &[Terminal]) -> bool
     !matches!(xs, [] | [Terminal::Mark(TokenKind::CloseBrace), ..])
 }
 
+/// The formula at the front, unless the items end here.
+#[tactic(auto, using(crate::proofs::ReadLoops::item_is, crate::proofs::ReadLoops::no_item_is))]
+fn item_at<'a, 'b>(
+    alloc: Global,
+    levels_left: u32,
+    xs: &'b [Terminal<'a>],
+) -> Result<Option<(ReadFormula<'a>, &'b [Terminal<'a>])>, ReadFault>
+    ensures some { IfOk result (λ found. IfSome found (λ read. (fs : List FormulaSyntax) →
+        item levels_left (open_items fs) (terminals_view xs.now)
+        ≡ Some (Ok (item_last (fs ++ formula_syntax read.0 ∷ []), terminals_view read.1.now)))) }
+    ensures none { IfOk result (λ found. IfNone found ((fs : List FormulaSyntax) →
+        item levels_left (open_items fs) (terminals_view xs.now) ≡ None)) }
+    ensures fault { IfErr result (λ fault. (fs : List FormulaSyntax) →
+        HasFaultOfMember (item levels_left (open_items fs) (terminals_view xs.now)) fault) }
+{
+    if !begins_item(xs) {
+        return Ok(None);
+    }
+    let read = form_with(alloc, levels_left, Form::Formula, xs)?;
+    Ok(Some(read))
+}
+
 /// The terminals after a semicolon at the front.
 #[tactic(auto, unfolding(crate::specs::Reading::item))]
 fn after_semicolon<'a, 'b>(xs: &'b [Terminal<'a>]) -> Option<&'b [Terminal<'a>]>
-    ensures some { IfSome result (λ rest.
-        terminals_view xs.now ≡ mark Semicolon ∷ terminals_view rest.now) }
+    ensures some { IfSome result (λ rest. (levels_left : ℕ) (fs : List FormulaSyntax) →
+        item levels_left (item_last fs) (terminals_view xs.now)
+        ≡ Some (Ok (open_items fs, terminals_view rest.now))) }
     ensures none { IfNone result
         ((levels_left : ℕ) (fs : List FormulaSyntax) → item levels_left (item_last fs) (terminals_view xs.now)
         ≡ None) }
@@ -51,6 +73,7 @@ fn after_semicolon<'a, 'b>(xs: &'b [Terminal<'a>]) -> Option<&'b [Terminal<'a>]>
 }
 
 /// The formulas up to the brace that closes them.
+#[tactic(auto, unfolding(crate::specs::Reading::formulas), using(crate::proofs::ReadLoops::items_end, crate::proofs::ReadLoops::items_shorten))]
 fn formulas<'a, 'b>(
     alloc: Global,
     levels_left: u32,
@@ -60,8 +83,7 @@ fn formulas<'a, 'b>(
 {
     let mut formulas = Vec::new(alloc);
     let mut left = Rest { terminals: xs };
-    while begins_item(left.terminals) {
-        let (formula, rest) = form_with(alloc, levels_left, Form::Formula, left.terminals)?;
+    while let Some((formula, rest)) = item_at(alloc, levels_left, left.terminals)? {
         formulas.push(formula)?;
         match after_semicolon(rest) {
             Some(rest) => left = Rest { terminals: rest },
@@ -168,7 +190,7 @@ fn section<'a, 'b>(
 }
 
 /// The sections of a text. It answers an `Ok` only where the text is sections and nothing else.
-#[tactic(auto, unfolding(crate::specs::Reading::sections))]
+#[tactic(auto, unfolding(crate::specs::Reading::sections), using(crate::proofs::ReadLoops::members_read, crate::proofs::ReadLoops::section_shorter, crate::proofs::ExactSections::section_shrinks))]
 pub fn sections<'a, 'b>(
     alloc: Global,
     levels_left: u32,
@@ -199,6 +221,7 @@ fn name_at<'a, 'b>(xs: &'b [Terminal<'a>]) -> Option<(&'a [u8], &'b [Terminal<'a
 }
 
 /// The names at the front.
+#[tactic(auto, using(crate::proofs::ReadLoops::members_read, crate::proofs::ReadLoops::name_shorter, crate::proofs::ExactDeclarations::name_shrinks))]
 fn names<'a, 'b>(alloc: Global, xs: &'b [Terminal<'a>]) -> Answer<'a, 'b, Vec<&'a [u8]>>
     ensures { Reads names_syntax (members name_at) xs.now result }
 {
@@ -222,7 +245,7 @@ fn parameters<'a, 'b>(alloc: Global, xs: &'b [Terminal<'a>]) -> Answer<'a, 'b, V
 }
 
 /// What a definition stands for, and the semicolon behind it.
-#[tactic(auto, unfolding(crate::specs::Reading::body))]
+#[tactic(auto, unfolding(crate::specs::Reading::body, crate::specs::Reading::above))]
 fn body<'a, 'b>(
     alloc: Global,
     levels_left: u32,
@@ -310,7 +333,7 @@ fn declaration<'a, 'b>(
 /// The sections and definitions of a text, in order. It answers an `Ok` only where the text is these
 /// and nothing else. An `Err` has the first fault of the form or of a level above `levels_left`, by how many
 /// terminals are left from it on, or says that memory ran out.
-#[tactic(auto, unfolding(crate::specs::Reading::declarations))]
+#[tactic(auto, unfolding(crate::specs::Reading::declarations), using(crate::proofs::ReadLoops::members_read, crate::proofs::ReadLoops::declaration_shorter, crate::proofs::ExactDeclarations::declaration_shrinks))]
 pub fn declarations<'a, 'b>(
     alloc: Global,
     levels_left: u32,

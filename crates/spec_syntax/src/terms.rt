@@ -1,17 +1,18 @@
 //! Reading terms.
 
 ghost use Rattle.std.specs.Prelude.{◌≡◌, ◌<◌, length, map, option_map, None, Some, IfOk, IfErr};
-ghost use Rattle.std.specs.Prelude.{IfSome};
-ghost use Rattle.std.specs.Prelude.{IfNone, if◌then◌else◌};
+ghost use Rattle.std.specs.Prelude.{Option, Ok, IfSome, IfNone};
 ghost use Rattle.token_readers.specs.Readers.{closing, below};
-ghost use Rattle.spec_syntax.specs.declared.fault.ReadFault.TheVariants.{Form, Deep};
+ghost use Rattle.spec_syntax.specs.declared.fault.ReadFault.TheVariants.{Deep};
 ghost use Rattle.spec_syntax.specs.Reading.{lower, above, closes, bracketed_term, begins_term};
-ghost use Rattle.spec_syntax.specs.Reading.{opened, complete, with_name, with_term};
+ghost use Rattle.spec_syntax.specs.Syntax.{TermSyntax};
+ghost use Rattle.spec_syntax.specs.Reading.{Level, beyond, opened, complete, with_name, with_term};
 ghost use Rattle.spec_syntax.specs.Reading.{with_brackets, argument, goes_on, arguments_of};
 ghost use Rattle.spec_syntax.specs.Reading.{after_name, name_last, term_last, fresh};
 ghost use Rattle.spec_syntax.specs.Reading.{argument_wanted, term_named, term_with};
 ghost use Rattle.spec_syntax.specs.SyntaxView.{terminal_view, terminals_view, term_syntax};
-ghost use Rattle.spec_syntax.specs.SyntaxView.{Reads};
+ghost use Rattle.spec_syntax.specs.SyntaxView.{HasSyntaxFault, Reads};
+ghost use Rattle.spec_syntax.specs.internal.Forms.{opened_term};
 ghost use Rattle.spec_syntax.specs.internal.InnerView.{arguments_view, arguments_syntax};
 
 use crate::fault::ReadFault;
@@ -78,8 +79,9 @@ fn closes(closer: Closer, terminal: &Terminal) -> bool
 }
 
 /// What closes a form.
+#[tactic(auto, unfolding(token_readers::specs::Readers::closing))]
 pub(crate) fn close<'a, 'b>(closer: Closer, xs: &'b [Terminal<'a>]) -> Answer<'a, 'b, ()>
-    ensures { Reads (λ _. tt {0}) (closing (closes closer) (tt {0})) xs.now result }
+    ensures { Reads (λ _. tt {0}) (closing (closes closer)) xs.now result }
 {
     match xs {
         [] => Err(ReadFault::Form(0)),
@@ -106,8 +108,7 @@ fn begins_term(xs: &[Terminal]) -> bool
 /// The fault after a name and an opening bracket, where there is no level below: the closing bracket
 /// could follow, but a term would be a level too many.
 fn beyond(xs: &[Terminal]) -> ReadFault
-    ensures { result ≡ (if begins_term (terminals_view xs.now)
-        then Deep (length xs.now) else Form (length xs.now)) }
+    ensures { HasSyntaxFault {V = Option TermSyntax} (beyond (terminals_view xs.now)) result }
 {
     if begins_term(xs) {
         ReadFault::Deep(xs.len())
@@ -118,6 +119,7 @@ fn beyond(xs: &[Terminal]) -> ReadFault
 
 /// A term in brackets, after the opening one.
 #[cycle(read)]
+#[tactic(auto, unfolding(crate::specs::Reading::above))]
 fn term_then_bracket<'a, 'b>(
     alloc: Global,
     levels_left: u32,
@@ -146,9 +148,22 @@ pub(crate) fn bracketed_term<'a, 'b>(
     }
 }
 
+/// The terminals after a closing bracket at the front.
+#[tactic(auto, unfolding(crate::specs::Reading::opened))]
+fn after_bracket<'a, 'b>(xs: &'b [Terminal<'a>]) -> Option<&'b [Terminal<'a>]>
+    ensures some { IfSome result (λ rest. (low : Option Level) →
+        opened low (terminals_view xs.now) ≡ Ok (None, terminals_view rest.now)) }
+    ensures none { IfNone result ((low : Option Level) →
+        opened low (terminals_view xs.now) ≡ opened_term low (terminals_view xs.now)) }
+{
+    match xs {
+        [Terminal::Mark(TokenKind::CloseRound), rest @ ..] => Some(rest),
+        _ => None,
+    }
+}
+
 /// What follows a name and an opening bracket: the closing one, or a term and the closing one.
 #[cycle(read)]
-#[tactic(auto, unfolding(crate::specs::Reading::opened))]
 fn opened<'a, 'b>(
     alloc: Global,
     levels_left: u32,
@@ -156,15 +171,15 @@ fn opened<'a, 'b>(
 ) -> Answer<'a, 'b, Option<ReadTerm<'a>>>
     ensures { Reads (option_map term_syntax) (opened (lower levels_left)) xs.now result }
 {
-    match xs {
-        [Terminal::Mark(TokenKind::CloseRound), rest @ ..] => Ok((None, rest)),
-        _ => match one_level_less(levels_left) {
-            None => Err(beyond(xs)),
-            Some(below) => {
-                let (term, rest) = term_then_bracket(alloc, below, xs)?;
-                Ok((Some(term), rest))
-            }
-        },
+    if let Some(rest) = after_bracket(xs) {
+        return Ok((None, rest));
+    }
+    match one_level_less(levels_left) {
+        None => Err(beyond(xs)),
+        Some(below) => {
+            let (term, rest) = term_then_bracket(alloc, below, xs)?;
+            Ok((Some(term), rest))
+        }
     }
 }
 
@@ -365,7 +380,7 @@ fn argument<'a, 'b>(
 
 /// What follows a name: nothing, or arguments, of which `()` has none.
 #[cycle(read)]
-#[tactic(auto, unfolding(crate::specs::Reading::after_name))]
+#[tactic(auto, unfolding(crate::specs::Reading::after_name), using(crate::proofs::ReadLoops::arguments_read))]
 pub(crate) fn after_name<'a, 'b>(
     alloc: Global,
     levels_left: u32,

@@ -1,26 +1,14 @@
 -- A small reader that takes all its laws from this crate: a name, and then numbers in square brackets.
-use Rattle.std.proofs.Common.{◌≡◌, ℕ, Bool, true, false, List, [], ◌∷◌, ◌++◌, refl, ap, ◌∙◌, arith}
+use Rattle.std.proofs.Common.{◌≡◌, ℕ, Bool, true, false, List, [], ◌∷◌, ◌++◌, refl, arith}
 use Rattle.std.specs.Prelude.{Option, Some, None, Ok, Err}
-use Rattle.token_readers.specs.Readers.{
-  form,
-  Answer,
-  Reader,
-  form_at,
-  closing,
-  after,
-  closed_by,
-  map_read,
-  iterate_most,
-  iterate,
-  members,
-  found_or_wrong,
-}
+use Rattle.token_readers.specs.Readers.{form, Answer, Reader, form_at, closing, after, closed_by, map_read, iterate_most, iterate}
+use Rattle.token_readers.specs.Readers.{members, found_or_wrong}
 use Rattle.token_readers.specs.Exact.{Grammar, Begins, Exact}
 use Rattle.token_readers.proofs.Runs.{exact_as}
-use Rattle.token_readers.proofs.Then.{Any, IsClosed, closed_exact}
+use Rattle.token_readers.proofs.Then.{Any, Tells, IsClosed, closed_exact}
 use Rattle.token_readers.proofs.Terminals.{Turn, by_first, end_wrong, turn_wrong, turn_alone, turn_takes, IsAfter, after_exact}
 use Rattle.token_readers.proofs.Lists.{AreAll, none, some, Member, members_exact}
-use Rattle.token_readers.proofs.Whole.{FirstForm, reads_all, one_value, first_form}
+use Rattle.token_readers.proofs.Whole.{HasFirstForm, reads_all, one_value, first_form}
 
 data Token : Type 0 where
   name : List ℕ → Token
@@ -125,21 +113,18 @@ all_numbers r xs ks no_number = none
 all_numbers r xs ks (more_numbers {xs = ys} {ks = js} k h) = some {f = number k ∷ []} refl (all_numbers r ys js h)
 
 abbrev InBrackets : Grammar Token (List ℕ)
-InBrackets = IsAfter is_opener (IsClosed is_closer (λ r. AreNumbers))
+InBrackets = IsAfter is_opener (IsClosed closer (λ r. AreNumbers))
 
-in_brackets : (xs : List Token) (ks : List ℕ) → AreNumbers xs ks → IsClosed is_closer (λ (r : ℕ). AreNumbers) 0 (xs ++ closer ∷ []) ks
-in_brackets xs ks h = record { value = ks; front = xs; tail = closer ∷ []; split = refl; first = h; second = (closer, refl, refl, refl) }
+one_closer : Tells is_closer closer
+one_closer = record { yes = refl; only = only } where
+  only : (x : Token) → is_closer x ≡ true → x ≡ closer
+  only closer e = refl
+  only _ e = cc
 
 bracketed_exact : (levels_left : ℕ) → Exact InBrackets Any levels_left bracketed
 bracketed_exact levels_left =
-    after_exact is_opener opener refl
-    (record {
-      ending = closer ∷ [];
-      value = [];
-      derives =
-          record { value = []; front = []; tail = closer ∷ []; split = refl; first = no_number; second = (closer, refl, refl, refl) };
-    })
-    (closed_exact is_closer closer refl (λ x e. e) (λ r xs ks h. h)
+    after_exact is_opener opener refl (record { ending = closer ∷ []; value = []; derives = ([], refl, no_number) })
+    (closed_exact one_closer refl (λ r xs ks h. h)
     (exact_as are_numbers all_numbers (λ x h. h) (members_exact (number_member levels_left))))
 
 -- how an entry goes on after its first token
@@ -148,12 +133,7 @@ EntryCase r (name n ∷ ys) v = (ks : List ℕ) × InBrackets r ys ks × (v ≡ 
 EntryCase r _ v = ⊥
 
 entry_case : (r : ℕ) (xs : List Token) (v : Entry) → IsEntry xs v → EntryCase r xs v
-entry_case r xs v (entry {xs = ys} {ks = ks} n h) =
-    (ks, (refl, record { value = ks; front = ys; tail = closer ∷ []; split = refl; first = h; second = (closer, refl, refl, refl) }), refl)
-
-closer_is : (x : Token) → is_closer x ≡ true → x ≡ closer
-closer_is closer e = refl
-closer_is _ e = cc
+entry_case r xs v (entry {xs = ys} {ks = ks} n h) = (ks, (refl, (ys, refl, h)), refl)
 
 opener_is : (x : Token) → is_opener x ≡ true → x ≡ opener
 opener_is opener e = refl
@@ -161,13 +141,7 @@ opener_is _ e = cc
 
 case_entry : (r : ℕ) (xs : List Token) (v : Entry) → EntryCase r xs v → IsEntry xs v
 case_entry r (name n ∷ []) v h = absurd h.1
-case_entry r (name n ∷ x ∷ ys) v h =
-    let inner = h.1.1 in
-    let last = inner.second in
-    let derived : AreNumbers inner.front h.0 = rw last.3 inner.first in
-    let split : ys ≡ inner.front ++ closer ∷ [] = inner.split
-    ∙ ap (λ zs. inner.front ++ zs) (last.1 ∙ ap (λ c. c ∷ []) (closer_is last.0 last.2)) in
-    rw (opener_is x h.1.0, split, h.2) (entry n derived)
+case_entry r (name n ∷ x ∷ ys) v h = rw (opener_is x h.1.0, h.1.1.1, h.2) (entry n h.1.1.2)
 case_entry r _ v h = absurd h
 
 entry_exact : (levels_left : ℕ) → Exact (λ r. IsEntry) Any levels_left read_entry
@@ -176,14 +150,7 @@ entry_exact levels_left = exact_as case_entry entry_case (λ x h. h) (by_first (
   some_entry = record {
     ending = name [] ∷ opener ∷ closer ∷ [];
     value = ([], []);
-    derives = (
-      [],
-      (
-        refl,
-        record { value = []; front = []; tail = closer ∷ []; split = refl; first = no_number; second = (closer, refl, refl, refl) },
-      ),
-      refl,
-    );
+    derives = ([], (refl, ([], refl, no_number)), refl);
   }
 
   turn : (x : Token) → Turn EntryCase Any levels_left read_entry x
@@ -199,5 +166,5 @@ each_entry_is_read xs v h = reads_all (entry_exact 0) 0 (omega arith) xs v h
 one_entry : (xs : List Token) (v w : Entry) → IsEntry xs v → IsEntry xs w → v ≡ w
 one_entry = one_value (entry_exact 0)
 
-faults_are_the_first : (xs : List Token) (left : ℕ) → read_entry xs ≡ Err (form left) → FirstForm (λ r. IsEntry) 0 xs left
+faults_are_the_first : (xs : List Token) (left : ℕ) → read_entry xs ≡ Err (form left) → HasFirstForm (λ r. IsEntry) 0 xs left
 faults_are_the_first = first_form (entry_exact 0)

@@ -1,51 +1,17 @@
 -- A step as often as it goes on.
-use Rattle.std.proofs.Common.{
-  ◌≡◌,
-  ℕ,
-  zero,
-  suc,
-  ◌<◌,
-  Bool,
-  true,
-  false,
-  List,
-  [],
-  ◌∷◌,
-  ◌++◌,
-  length,
-  refl,
-  ap,
-  sym,
-  ◌∙◌,
-  append_assoc,
-  length-append,
-  arith,
-}
+use Rattle.std.proofs.Common.{◌≡◌, ℕ, zero, suc, ◌<◌, List, [], ◌∷◌, ◌++◌, length, refl, ap, sym, ◌∙◌, append_assoc, length-append, arith}
 use Rattle.std.specs.Prelude.{Option, Some, None, Ok, Err}
 use Rattle.token_readers.specs.Readers.{Fault, Answer, Reader, and_then, go_on, iterate_most, iterate, map_read}
-use Rattle.token_readers.specs.Exact.{
-  Grammar,
-  SameFirst,
-  both_end,
-  both_begin,
-  Before,
-  Ending,
-  gives,
-  wrong,
-  too_deep,
-  ends_with,
-  Says,
-  Run,
-  Agrees,
-  Exact,
-}
+use Rattle.token_readers.specs.Exact.{Grammar, SameFirst, both_begin, Before, Ending, gives, wrong, too_deep, ends_with, Says, Run, Agrees}
+use Rattle.token_readers.specs.Exact.{Exact}
 use Rattle.token_readers.proofs.Runs.{same_first, before_map, run_after, map_same, same_read}
-use Rattle.token_readers.proofs.Terminals.{Turn}
-use Rattle.token_readers.proofs.Then.{IsThen, Fits, run_then, agrees_then}
+use Rattle.token_readers.proofs.Terminals.{Turn, run_here, run_end}
+use Rattle.token_readers.proofs.Then.{IsThen, run_then, agrees_then}
 
 module _ {T V : Type 0} where
   -- what a reader that gives a value has taken
-  pub taken : {Is : Grammar T V} {levels_left : ℕ} {reader : Reader T V} (xs : List T) → Run Is levels_left reader xs → (v : V) (rest : List T) →
+  pub taken : {Is : Grammar T V} {levels_left : ℕ} {reader : Reader T V} (xs : List T) → Run Is levels_left reader xs →
+      (v : V) (rest : List T) →
       reader xs ≡ Ok (v, rest) →
       (front : List T) × (xs ≡ front ++ rest) × Is levels_left front v
   taken {Is = Is} {levels_left = levels_left} {reader = reader} xs k v rest h =
@@ -140,125 +106,103 @@ module _ {T S : Type 0} where
       AreSteps IsStep s r xs t
   joined IsStep s r xs t h = rw h.split (more h.first h.second)
 
+  -- what a step is where this terminal is the first: none, or what a reader gives
+  pub data At (IsStep : Grammar T S) (ends : T → Type 0) (levels_left : ℕ) (step : List T → Option (Answer T S)) (x : T) : Type 0 where
+    stays : ((rest : List T) → step (x ∷ rest) ≡ None) → ((r : ℕ) (ys : List T) (t : S) → IsStep r (x ∷ ys) t → ⊥) →
+        At IsStep ends levels_left step x
+    goes : (reader : Reader T S) → ((rest : List T) → step (x ∷ rest) ≡ Some (reader (x ∷ rest))) → Turn IsStep ends levels_left reader x →
+        At IsStep ends levels_left step x
+
   -- A step is decided by the first terminal, and read exactly.
   pub record Stepping (IsStep : S → Grammar T S) (steps : S → T → Type 0) (ends : T → Type 0) (levels_left : ℕ) (step : S → List T →
-      Option (Answer T S)) (starts : S → T → Bool) (reader : S → Reader T S) : Type 0 where
+      Option (Answer T S)) : Type 0 where
     pub at_end : (s : S) → step s [] ≡ None
-    pub none : (s : S) (x : T) (rest : List T) → starts s x ≡ false → step s (x ∷ rest) ≡ None
-    pub some : (s : S) (x : T) (rest : List T) → starts s x ≡ true → step s (x ∷ rest) ≡ Some (reader s (x ∷ rest))
-    pub begins : (s : S) (r : ℕ) (xs : List T) (t : S) → IsStep s r xs t → (x : T) × (ys : List T) × (xs ≡ x ∷ ys) × (starts s x ≡ true)
+    pub nothing : (s : S) (r : ℕ) (t : S) → IsStep s r [] t → ⊥
+    pub at : (s : S) (x : T) → At (IsStep s) (steps s) levels_left (step s) x
     pub lift : (s : S) (r : ℕ) (xs : List T) (t : S) → IsStep s r xs t → IsStep s (suc (suc r)) xs t
-    pub follows : (s : S) (r : ℕ) (xs : List T) (t : S) → IsStep s r xs t → (x : T) → starts t x ≡ true → steps s x
-    pub stops : (s : S) (x : T) → ends x → starts s x ≡ false
+    pub follows : (s : S) (r : ℕ) (xs : List T) (t : S) → IsStep s r xs t → (x : T) (ys : List T) (u : S) → IsStep t r (x ∷ ys) u →
+        steps s x
+    pub stops : (s : S) (x : T) → ends x → (rest : List T) → step s (x ∷ rest) ≡ None
     pub weaker : (s : S) (x : T) → ends x → steps s x
-    pub turn : (s : S) (x : T) → starts s x ≡ true → Turn (IsStep s) (steps s) levels_left (reader s) x
 
   module _ {IsStep : S → Grammar T S} {steps : S → T → Type 0} {ends : T → Type 0} {levels_left : ℕ} {step : S → List T →
-      Option (Answer T S)} {starts : S → T → Bool} {reader : S → Reader T S} where
-    pub step_shrinks : Stepping IsStep steps ends levels_left step starts reader → Shrinks step
-    step_shrinks k s [] t rest h = let none : step s [] ≡ None = k.at_end s in cc
-    step_shrinks k s (x ∷ xs) t rest h = by (starts s x) refl where
-      by : (b : Bool) → starts s x ≡ b → length rest < suc (length xs)
-      by false e = let none : step s (x ∷ xs) ≡ None = k.none s x xs e in cc
-      by true e =
-          let some : step s (x ∷ xs) ≡ Some (reader s (x ∷ xs)) = k.some s x xs e in
-          let read : reader s (x ∷ xs) ≡ Ok (t, rest) = cc in
-          let front = taken (x ∷ xs) ((k.turn s x e).run xs) t rest read in
-          let first = k.begins s levels_left front.0 t front.2 in
-          let whole : suc (length xs) ≡ length (front.0 ++ rest) = ap length front.1 in
-          let taken_some : length front.0 ≡ suc (length first.1) = ap length first.2 in
-          omega (arith, whole, taken_some, length-append front.0 rest)
+      Option (Answer T S)} (k : Stepping IsStep steps ends levels_left step) where
+    pub step_shrinks : Shrinks step
+    step_shrinks s [] t rest h = let none : step s [] ≡ None = k.at_end s in cc
+    step_shrinks s (x ∷ xs) t rest h = by (k.at s x) where
+      longer : (front : List T) → x ∷ xs ≡ front ++ rest → IsStep s levels_left front t → length rest < suc (length xs)
+      longer [] split derived = absurd (k.nothing s levels_left t derived)
+      longer (y ∷ front) split derived =
+          let whole : suc (length xs) ≡ suc (length (front ++ rest)) = ap length split in
+          omega (arith, whole, length-append front rest)
+
+      by : At (IsStep s) (steps s) levels_left (step s) x → length rest < suc (length xs)
+      by (stays none never) = let same : step s (x ∷ xs) ≡ None = none xs in cc
+      by (goes reader some turn) =
+          let same : step s (x ∷ xs) ≡ Some (reader (x ∷ xs)) = some xs in
+          let front = taken (x ∷ xs) (turn.run xs) t rest (cc) in
+          longer front.0 front.1 front.2
 
     -- nothing is left to do before these terminals
-    ended : Stepping IsStep steps ends levels_left step starts reader → (s : S) (xs : List T) → step s xs ≡ None → iterate step s xs ≡ Ok (s, xs)
-    ended k s xs h = no_step (step_shrinks k) s xs h
+    ended : (s : S) (xs : List T) → step s xs ≡ None → iterate step s xs ≡ Ok (s, xs)
+    ended = no_step step_shrinks
 
     -- a step and the further ones are one reader after another
-    stepped : Stepping IsStep steps ends levels_left step starts reader → (s : S) (x : T) (rest : List T) → starts s x ≡ true →
-        iterate step s (x ∷ rest) ≡ and_then (reader s (x ∷ rest)) (iterate step)
-    stepped k s x rest e =
-        one_step step (step_shrinks k) s (x ∷ rest) ∙ ap (λ found. go_on s (x ∷ rest) found (iterate step)) (k.some s x rest e)
-        ∙ as_then (iterate step) s (x ∷ rest) (reader s (x ∷ rest))
-
-    fits : Stepping IsStep steps ends levels_left step starts reader → (s : S) → Fits (IsStep s) (AreSteps IsStep)
-    fits k s = record { lift = k.lift s; default = λ r t. record { ending = []; value = t; derives = stop } }
-
-    run_end : Stepping IsStep steps ends levels_left step starts reader → (s : S) → Run (AreSteps IsStep s) levels_left (iterate step s) []
-    run_end k s = record { front = []; rest = []; outcome = gives s; split = refl; reads = at_end; says = stop } where
-      at_end : (other : List T) → SameFirst [] other → iterate step s other ≡ Ok (s, other)
-      at_end other both_end = ended k s [] (k.at_end s)
+    stepped : (s : S) (x : T) (rest : List T) (reader : Reader T S) → step s (x ∷ rest) ≡ Some (reader (x ∷ rest)) →
+        iterate step s (x ∷ rest) ≡ and_then (reader (x ∷ rest)) (iterate step)
+    stepped s x rest reader e =
+        one_step step step_shrinks s (x ∷ rest) ∙ ap (λ found. go_on s (x ∷ rest) found (iterate step)) e
+        ∙ as_then (iterate step) s (x ∷ rest) (reader (x ∷ rest))
 
     -- a run from this terminal on, by runs after the first step
-    run_first : Stepping IsStep steps ends levels_left step starts reader → (s : S) (x : T) (rest : List T) →
+    run_first : (s : S) (x : T) (rest : List T) →
         ((t : S) (left : List T) → length left < suc (length rest) → Run (AreSteps IsStep t) levels_left (iterate step t) left) →
         Run (AreSteps IsStep s) levels_left (iterate step s) (x ∷ rest)
-    run_first k s x rest further = by (starts s x) refl where
-      stays : starts s x ≡ false → (other : List T) → SameFirst (x ∷ rest) other → iterate step s other ≡ Ok (s, other)
-      stays e other (both_begin y ys zs) = ended k s (x ∷ zs) (k.none s x zs e)
+    run_first s x rest further = by (k.at s x) where
+      by : At (IsStep s) (steps s) levels_left (step s) x → Run (AreSteps IsStep s) levels_left (iterate step s) (x ∷ rest)
+      by (stays none never) = run_here (gives s) x (λ ys. ended s (x ∷ ys) (none ys)) (λ ys. stop) rest
+      by (goes reader some turn) =
+          run_after (AreSteps IsStep s) (λ t. t) [] (joined IsStep s) (iterate step s) read
+          (run_then (record { lift = k.lift s; default = λ r t. record { ending = []; value = t; derives = stop } }) levels_left reader
+          (iterate step) (x ∷ rest)
+          (turn.run rest) (λ t left h. further t left (step_shrinks s (x ∷ rest) t left (some rest ∙ ap Some h)))) where
+            read : (other : List T) → SameFirst (x ∷ rest) other →
+                iterate step s other ≡ map_read (λ t. t) (and_then (reader other) (iterate step))
+            read other (both_begin y ys zs) = stepped s x zs reader (some zs) ∙ sym (map_same (and_then (reader (x ∷ zs)) (iterate step)))
 
-      goes : starts s x ≡ true → (other : List T) → SameFirst (x ∷ rest) other →
-          iterate step s other ≡ map_read (λ t. t) (and_then (reader s other) (iterate step))
-      goes e other (both_begin y ys zs) = stepped k s x zs e ∙ sym (map_same (and_then (reader s (x ∷ zs)) (iterate step)))
-
-      by : (b : Bool) → starts s x ≡ b → Run (AreSteps IsStep s) levels_left (iterate step s) (x ∷ rest)
-      by false e = record { front = []; rest = x ∷ rest; outcome = gives s; split = refl; reads = stays e; says = stop }
-      by true e =
-          run_after (λ t. t) [] (iterate step s) (goes e) (joined IsStep s)
-          (run_then (IsStep s) (AreSteps IsStep) (fits k s) levels_left (reader s) (iterate step) (x ∷ rest) ((k.turn s x e).run rest) (λ t left h.
-          further t left (step_shrinks k s (x ∷ rest) t left (k.some s x rest e ∙ ap Some h))))
-
-    run_most : Stepping IsStep steps ends levels_left step starts reader → (most : ℕ) (s : S) (xs : List T) → length xs < most →
-        Run (AreSteps IsStep s) levels_left (iterate step s) xs
-    run_most k zero s xs few = absurd (omega (arith, few))
-    run_most k (suc most) s [] few = run_end k s
-    run_most k (suc most) s (x ∷ rest) few = run_first k s x rest (λ t left less. run_most k most t left (omega (arith, less, few)))
+    run_most : (most : ℕ) (s : S) (xs : List T) → length xs < most → Run (AreSteps IsStep s) levels_left (iterate step s) xs
+    run_most zero s xs few = absurd (omega (arith, few))
+    run_most (suc most) s [] few = run_end (gives s) (ended s [] (k.at_end s)) stop
+    run_most (suc most) s (x ∷ rest) few = run_first s x rest (λ t left less. run_most most t left (omega (arith, less, few)))
 
     -- what follows a step: further steps, or terminals after which there are none
-    before_steps : Stepping IsStep steps ends levels_left step starts reader → (r : ℕ) (s t : S) (f : List T) → IsStep s r f t →
-        (xs : List T) (u : S) → Steps IsStep r t xs u →
-        (rest : List T) → Before ends rest → Before (steps s) (xs ++ rest)
-    before_steps k r s t f h xs u stop rest b = before_map ends (steps s) (k.weaker s) rest b
-    before_steps k r s t f h xs u (more {t = v} {f = g} {g = ys} i m) rest b =
-        let first = k.begins t r g v i in
-        rw first.2 (k.follows s r f t h first.0 first.3)
+    before_steps : (r : ℕ) (s t : S) (f : List T) → IsStep s r f t → (xs : List T) (u : S) → Steps IsStep r t xs u → (rest : List T) →
+        Before ends rest → Before (steps s) (xs ++ rest)
+    before_steps r s t f h xs u stop rest b = before_map ends (steps s) (k.weaker s) rest b
+    before_steps r s t f h xs u (more {t = v} {f = []} i m) rest b = absurd (k.nothing t r v i)
+    before_steps r s t f h xs u (more {t = v} {f = x ∷ g} i m) rest b = k.follows s r f t h x g v i
 
-    ends_here : Stepping IsStep steps ends levels_left step starts reader → (s : S) (rest : List T) → Before ends rest →
-        iterate step s rest ≡ Ok (s, rest)
-    ends_here k s [] b = ended k s [] (k.at_end s)
-    ends_here k s (x ∷ rest) b = ended k s (x ∷ rest) (k.none s x rest (k.stops s x b))
+    ends_here : (s : S) (rest : List T) → Before ends rest → iterate step s rest ≡ Ok (s, rest)
+    ends_here s [] b = ended s [] (k.at_end s)
+    ends_here s (x ∷ rest) b = ended s (x ∷ rest) (k.stops s x b rest)
 
-    begun : Stepping IsStep steps ends levels_left step starts reader → (s : S) (r : ℕ) (xs : List T) (t : S) → IsStep s r xs t → (ys : List T) →
-        iterate step s (xs ++ ys) ≡ and_then (reader s (xs ++ ys)) (iterate step)
-    begun k s r xs t h ys =
-        let first = k.begins s r xs t h in
-        let read : iterate step s (first.0 ∷ (first.1 ++ ys)) ≡ and_then (reader s (first.0 ∷ (first.1 ++ ys))) (iterate step) =
-        stepped k s first.0 (first.1 ++ ys) first.3 in
-        ap (λ zs. iterate step s (zs ++ ys)) first.2 ∙ read ∙ ap (λ zs. and_then (reader s (zs ++ ys)) (iterate step)) (sym first.2)
-
-    step_again : Stepping IsStep steps ends levels_left step starts reader → (r : ℕ) (s : S) (xs : List T) (t : S) → IsStep s r xs t →
-        (rest : List T) → Before (steps s) rest →
-        Agrees levels_left r t rest (reader s (xs ++ rest))
-    step_again k r s xs t h rest b =
-        let first = k.begins s r xs t h in
-        let derived : IsStep s r (first.0 ∷ first.1) t = rw first.2 at h in
-        let agrees : Agrees levels_left r t rest (reader s (first.0 ∷ (first.1 ++ rest))) =
-        (k.turn s first.0 first.3).complete r first.1 t derived rest b in
-        rw first.2 agrees
-
-    steps_again : Stepping IsStep steps ends levels_left step starts reader → (r : ℕ) (s : S) (xs : List T) (t : S) → Steps IsStep r s xs t →
-        (rest : List T) → Before ends rest →
+    steps_again : (r : ℕ) (s : S) (xs : List T) (t : S) → Steps IsStep r s xs t → (rest : List T) → Before ends rest →
         Agrees levels_left r t rest (iterate step s (xs ++ rest))
-    steps_again k r s xs t stop rest b = rw (ends_here k s rest b) (refl, refl)
-    steps_again k r s xs u (more {t = t} {f = f} {g = g} h m) rest b =
-        let further : Agrees levels_left r u rest (iterate step t (g ++ rest)) = steps_again k r t g u m rest b in
-        let whole : Agrees levels_left r u rest (and_then (reader s (f ++ (g ++ rest))) (iterate step)) =
-        agrees_then levels_left r t u (g ++ rest) rest (reader s (f ++ (g ++ rest))) (iterate step)
-        (step_again k r s f t h (g ++ rest) (before_steps k r s t f h g u m rest b)) further in
-        rw (append_assoc, begun k s r f t h (g ++ rest)) whole
+    steps_again r s xs t stop rest b = rw (ends_here s rest b) (refl, refl)
+    steps_again r s xs u (more {t = t} {f = []} h m) rest b = absurd (k.nothing s r t h)
+    steps_again r s xs u (more {t = t} {f = x ∷ f} {g = g} h m) rest b =
+        by (k.at s x) (steps_again r t g u m rest b) (before_steps r s t (x ∷ f) h g u m rest b) where
+          by : At (IsStep s) (steps s) levels_left (step s) x → Agrees levels_left r u rest (iterate step t (g ++ rest)) →
+              Before (steps s) (g ++ rest) → Agrees levels_left r u rest (iterate step s (x ∷ ((f ++ g) ++ rest)))
+          by (stays none never) further before = absurd (never r f t h)
+          by (goes reader some turn) further before =
+              rw (append_assoc, stepped s x (f ++ (g ++ rest)) reader (some (f ++ (g ++ rest))))
+              (agrees_then levels_left r t u (g ++ rest) rest (reader (x ∷ (f ++ (g ++ rest)))) (iterate step)
+              (turn.complete r f t h (g ++ rest) before) further)
 
     -- as many steps as there are
-    pub iterate_exact : Stepping IsStep steps ends levels_left step starts reader → (s : S) → Exact (AreSteps IsStep s) ends levels_left (iterate step s)
-    iterate_exact k s = record {
-      run = λ xs. run_most k (suc (length xs)) s xs (omega arith);
-      complete = λ r xs t h rest b. steps_again k r s xs t h rest b;
+    pub iterate_exact : (s : S) → Exact (AreSteps IsStep s) ends levels_left (iterate step s)
+    iterate_exact s = record {
+      run = λ xs. run_most (suc (length xs)) s xs (omega arith);
+      complete = λ r xs t h rest b. steps_again r s xs t h rest b;
     }

@@ -3,6 +3,7 @@ use Rattle.std.proofs.Common.{◌≡◌, ℕ, zero, suc, ◌<◌, Bool, true, fa
 use Rattle.std.specs.Prelude.{Option, Some, None, Ok, Err}
 use Rattle.token_readers.specs.Readers.{form, deep, Answer, Reader, map_read, below}
 use Rattle.token_readers.specs.Exact.{Grammar, Before, Ending, gives, wrong, too_deep, Begins, Says, Run, Agrees, Exact}
+use Rattle.token_readers.proofs.Then.{Tells}
 use Rattle.token_readers.proofs.Terminals.{Turn, turn_deep, turn_takes, turn_gives, by_first, end_gives}
 
 -- there is a level below exactly where one is left, and then this holds of it
@@ -26,12 +27,9 @@ module _ {T V : Type 0} where
   says_up : (Is : Grammar T V) (levels_left : ℕ) (outcome : Ending V) (front rest : List T) → Says Is levels_left outcome front rest →
       Says (Up Is) (suc levels_left) outcome front rest
   says_up Is levels_left (gives v) front rest h = h
-  says_up Is levels_left wrong front rest h = record { ending = h.ending; value = h.value; derives = h.derives }
+  says_up Is levels_left wrong front rest h = h
   says_up Is levels_left too_deep front [] h = h
-  says_up Is levels_left too_deep front (x ∷ rest) h = (
-    record { ending = h.0.ending; value = h.0.value; derives = h.0.derives },
-    record { ending = h.1.ending; value = h.1.value; derives = h.1.derives },
-  )
+  says_up Is levels_left too_deep front (x ∷ rest) h = h
 
   agrees_up : (levels_left r : ℕ) (v : V) (rest : List T) (answer : Answer T V) → Agrees levels_left r v rest answer →
       Agrees (suc levels_left) (suc r) v rest answer
@@ -41,34 +39,33 @@ module _ {T V : Type 0} where
 
   pub exact_up : {Is : Grammar T V} {ends : T → Type 0} {levels_left : ℕ} {reader : Reader T V} → Exact Is ends levels_left reader →
       Exact (Up Is) ends (suc levels_left) reader
-  exact_up {Is = Is} {ends = ends} {levels_left = levels_left} {reader = reader} k = record { run = λ xs. run xs (k.run xs); complete = complete } where
-    run : (xs : List T) → Run Is levels_left reader xs → Run (Up Is) (suc levels_left) reader xs
-    run xs h = record {
-      front = h.front;
-      rest = h.rest;
-      outcome = h.outcome;
-      split = h.split;
-      reads = h.reads;
-      says = says_up Is levels_left h.outcome h.front h.rest h.says;
-    }
+  exact_up {Is = Is} {ends = ends} {levels_left = levels_left} {reader = reader} k =
+      record { run = λ xs. run xs (k.run xs); complete = complete } where
+        run : (xs : List T) → Run Is levels_left reader xs → Run (Up Is) (suc levels_left) reader xs
+        run xs h = record {
+          front = h.front;
+          rest = h.rest;
+          outcome = h.outcome;
+          split = h.split;
+          reads = h.reads;
+          says = says_up Is levels_left h.outcome h.front h.rest h.says;
+        }
 
-    complete : (r : ℕ) (xs : List T) (v : V) → Up Is r xs v → (rest : List T) → Before ends rest →
-        Agrees (suc levels_left) r v rest (reader (xs ++ rest))
-    complete zero xs v h rest b = absurd h
-    complete (suc r) xs v h rest b = agrees_up levels_left r v rest (reader (xs ++ rest)) (k.complete r xs v h rest b)
+        complete : (r : ℕ) (xs : List T) (v : V) → Up Is r xs v → (rest : List T) → Before ends rest →
+            Agrees (suc levels_left) r v rest (reader (xs ++ rest))
+        complete zero xs v h rest b = absurd h
+        complete (suc r) xs v h rest b = agrees_up levels_left r v rest (reader (xs ++ rest)) (k.complete r xs v h rest b)
 
-module _ {L T U V : Type 0} where
+module _ {L T U V : Type 0} {Low : Grammar T U} {Is : Grammar T V} {lows ends : T → Type 0} {Holds : ℕ → L → Type 0} {levels_left : ℕ}
+    {reader : Reader T V} {x : T} where
   -- The terminal opens a form of the level below. Where there is none, it is a level too many.
-  pub turn_below : {Low : Grammar T U} {Is : Grammar T V} {lows ends : T → Type 0} {Holds : ℕ → L →
-      Type 0} {levels_left : ℕ} {reader : Reader T V} {x : T} (make : U → V)
-      (low : Option L) (pick : L → Reader T U) → ((k : ℕ) (l : L) → Holds k l → Exact Low lows k (pick l)) → Below Holds levels_left low →
-      ((rest : List T) → reader (x ∷ rest) ≡ map_read make (below low pick (x ∷ rest))) → ((y : T) → ends y → lows y) →
-      Begins (Is levels_left) [] → Begins (Low (suc levels_left)) [] →
+  pub turn_below : (make : U → V) (low : Option L) (pick : L → Reader T U) → ((k : ℕ) (l : L) → Holds k l → Exact Low lows k (pick l)) →
+      Below Holds levels_left low → ((rest : List T) → reader (x ∷ rest) ≡ map_read make (below low pick (x ∷ rest))) →
+      ((y : T) → ends y → lows y) → Begins (Is levels_left) [] → Begins (Low (suc levels_left)) [] →
       ((r : ℕ) (ys : List T) (u : U) → Low r ys u → Is (suc r) (x ∷ ys) (make u)) →
       ((r : ℕ) (ys : List T) (v : V) → Is r (x ∷ ys) v → (u : U) × Up Low r ys u × (v ≡ make u)) →
       Turn Is ends levels_left reader x
-  turn_below {Low = Low} {Is = Is} {lows = lows} {ends = ends} {Holds = Holds} {levels_left = levels_left} {reader = reader} {x =
-      x} make low pick of h e weaker some some_low to from =
+  turn_below make low pick of h e weaker some some_low to from =
       by levels_left low h e some some_low where
         up : (r : ℕ) (ys : List T) (u : U) → Up Low r ys u → Is r (x ∷ ys) (make u)
         up zero ys u k = absurd k
@@ -82,45 +79,41 @@ module _ {L T U V : Type 0} where
             ((rest : List T) → reader (x ∷ rest) ≡ map_read make (below low pick (x ∷ rest))) →
             Begins (Is levels_left) [] → Begins (Low (suc levels_left)) [] → Turn Is ends levels_left reader x
         by zero None h e some some_low =
-            turn_deep e some (record {
-              ending = some_low.ending;
-              value = make some_low.value;
-              derives =
-                  to 1 some_low.ending some_low.value some_low.derives;
-            }) more
+            let opened = to 1 some_low.ending some_low.value some_low.derives in
+            turn_deep e some (record { ending = some_low.ending; value = make some_low.value; derives = opened }) more
         by zero (Some l) h e some some_low = absurd h
         by (suc k) None h e some some_low = absurd h
         by (suc k) (Some l) h e some some_low = turn_takes make (pick l) e weaker up from (exact_up (of k l h))
 
-module _ {T V : Type 0} where
-  -- the value that was read before, or a terminal that passes the test and a form of the level below
-  abbrev pub IsTail : (T → Bool) → (V → V) → Grammar T V → V → Grammar T V
-  IsTail is make Low v r [] w = w ≡ v
-  IsTail is make Low v r (x ∷ ys) w = (is x ≡ true) × ((u : V) × Up Low r ys u × (w ≡ make u))
+module _ {T V : Type 0} (mark : T) (make : V → V) (Low : Grammar T V) where
+  -- the value that was read before, or this terminal and a form of the level below
+  pub data IsTail (v : V) (r : ℕ) : List T → V → Type 0 where
+    alone : IsTail v r [] v
+    with_right : {ys : List T} {u : V} → Up Low r ys u → IsTail v r (mark ∷ ys) (make u)
 
-  pub lift_tail : (is : T → Bool) (make : V → V) (Low : Grammar T V) →
-      ((r : ℕ) (xs : List T) (v : V) → Low r xs v → Low (suc (suc r)) xs v) → (v : V) (r : ℕ) (xs : List T) (w : V) →
-      IsTail is make Low v r xs w → IsTail is make Low v (suc (suc r)) xs w
-  lift_tail is make Low lift v r [] w h = h
-  lift_tail is make Low lift v r (x ∷ ys) w h = (h.0, (h.1.0, lift_up Low lift r ys h.1.0 h.1.1, h.1.2))
-
-module _ {L T V : Type 0} where
-  pub tail_exact : (is : T → Bool) (make : V → V) {Low : Grammar T V} {lows ends : T → Type 0} {Holds : ℕ → L →
-      Type 0} {levels_left : ℕ} {reader : Reader T V} (v : V) (low : Option L)
-      (pick : L → Reader T V) → ((k : ℕ) (l : L) → Holds k l → Exact Low lows k (pick l)) → Below Holds levels_left low → reader [] ≡ Ok (v, []) →
+module _ {L T V : Type 0} {is : T → Bool} {mark : T} (tells : Tells is mark) (make : V → V) {Low : Grammar T V} where
+  pub tail_exact : {lows ends : T → Type 0} {Holds : ℕ → L → Type 0} {levels_left : ℕ} {reader : Reader T V} (v : V) (low : Option L)
+      (pick : L → Reader T V) → ((k : ℕ) (l : L) → Holds k l → Exact Low lows k (pick l)) → Below Holds levels_left low →
+      reader [] ≡ Ok (v, []) →
       ((x : T) (rest : List T) → is x ≡ true → reader (x ∷ rest) ≡ map_read make (below low pick (x ∷ rest))) →
       ((x : T) (rest : List T) → is x ≡ false → reader (x ∷ rest) ≡ Ok (v, x ∷ rest)) → ((x : T) → ends x → is x ≡ false) →
       ((x : T) → ends x → lows x) →
-      Begins (Low (suc levels_left)) [] → Exact (IsTail is make Low v) ends levels_left reader
-  tail_exact is make {Low = Low} {ends = ends} {Holds = Holds} {levels_left = levels_left} {reader =
-      reader} v low pick of h at_end goes stays stops weaker some_low =
-      by_first (end_gives v at_end refl (λ r w e. e) (λ x rest e. stays x rest (stops x e))) (λ x. by x (is x) refl) where
-        never : (x : T) → is x ≡ false → (r : ℕ) (ys : List T) (w : V) → IsTail is make Low v r (x ∷ ys) w → ⊥
-        never x e r ys w h = let yes_it : is x ≡ true = h.0 in cc
+      Begins (Low (suc levels_left)) [] → Exact (IsTail mark make Low v) ends levels_left reader
+  tail_exact {ends = ends} {Holds = Holds} {levels_left = levels_left} {reader = reader} v low pick of h at_end goes stays stops weaker
+      some_low =
+      by_first (end_gives v at_end alone only (λ x rest e. stays x rest (stops x e))) (λ x. by x (is x) refl) where
+        only : (r : ℕ) (w : V) → IsTail mark make Low v r [] w → w ≡ v
+        only r w alone = refl
 
-        by : (x : T) (b : Bool) → is x ≡ b → Turn (IsTail is make Low v) ends levels_left reader x
+        never : (x : T) → is x ≡ false → (r : ℕ) (ys : List T) (w : V) → IsTail mark make Low v r (x ∷ ys) w → ⊥
+        never x e r ys w (with_right h) = let yes_it = tells.yes in cc
+
+        from : (x : T) (r : ℕ) (ys : List T) (w : V) → IsTail mark make Low v r (x ∷ ys) w → (u : V) × Up Low r ys u × (w ≡ make u)
+        from x r ys w (with_right {u = u} h) = (u, h, refl)
+
+        by : (x : T) (b : Bool) → is x ≡ b → Turn (IsTail mark make Low v) ends levels_left reader x
         by x true e =
             turn_below {Holds = Holds} make low pick of h (λ rest. goes x rest e) weaker
-            (record { ending = []; value = v; derives = refl }) some_low (λ r ys u k. (e, (u, k, refl)))
-            (λ r ys w k. k.1)
-        by x false e = turn_gives v (λ rest. stays x rest e) refl (never x e)
+            (record { ending = []; value = v; derives = alone }) some_low
+            (λ r ys u k. rw (tells.only x e) (with_right k)) (from x)
+        by x false e = turn_gives v (λ rest. stays x rest e) alone (never x e)

@@ -6,6 +6,7 @@ pub mod Levels
 pub mod Iterates
 pub mod Lists
 pub mod Whole
+pub mod FirstFaults
 pub mod Taken
 pub mod Sequels
 pub mod WholeTexts

@@ -5,8 +5,10 @@ use Rattle.std.specs.Prelude.{Option, Some, None, if◌then◌else◌}
 use Rattle.token_readers.specs.Readers.{Answer, Reader, form_at, after, map_read, push, push_read, members}
 use Rattle.token_readers.specs.Exact.{Grammar, Begins, Exact}
 use Rattle.token_readers.proofs.Runs.{exact_as}
-use Rattle.token_readers.proofs.Terminals.{Turn, turn_of, turn_map, IsAfter, after_exact}
-use Rattle.token_readers.proofs.Iterates.{Steps, stop, more, Stepping, iterate_exact}
+use Rattle.token_readers.proofs.Terminals.{Turn, turn_of, turn_as, IsAfter, after_exact}
+use Rattle.token_readers.proofs.Then.{Any}
+use Rattle.token_readers.proofs.Taken.{Never}
+use Rattle.token_readers.proofs.Iterates.{Steps, stop, more, At, stays, goes, Stepping, iterate_exact}
 
 module _ {T V : Type 0} where
   -- members one after another
@@ -32,20 +34,24 @@ module _ {T V : Type 0} where
   IsPushed Is vs r xs ws = (v : V) × Is r xs v × (ws ≡ vs ++ v ∷ [])
 
   module _ {Is : Grammar T V} {each ends : T → Type 0} {levels_left : ℕ} {member : List T → Option (Answer T V)} {starts : T →
-      Bool} {reader : Reader T V} where
-    pub stepping : Member Is each ends levels_left member starts reader →
-        Stepping (IsPushed Is) (λ vs. each) ends levels_left (push member) (λ vs. starts) (λ vs xs. map_read (λ v. vs ++ v ∷ []) (reader xs))
-    stepping k = record {
+      Bool} {reader : Reader T V} (k : Member Is each ends levels_left member starts reader) where
+    pub stepping : Stepping (IsPushed Is) (λ vs. each) ends levels_left (push member)
+    stepping = record {
       at_end = λ vs. ap (push_read vs) k.at_end;
-      none = λ vs x rest e. ap (push_read vs) (k.none x rest e);
-      some = λ vs x rest e. ap (push_read vs) (k.some x rest e);
-      begins = λ vs r xs ws h. k.begins r xs h.0 h.1;
+      nothing = λ vs r ws h. let first = k.begins r [] h.0 h.1 in let same = first.2 in cc;
+      at = λ vs x. by vs x (starts x) refl;
       lift = λ vs r xs ws h. (h.0, k.lift r xs h.0 h.1, h.2);
-      follows = λ vs r xs ws h. k.follows;
-      stops = λ vs. k.stops;
+      follows = λ vs r xs ws h x ys us i. k.follows x (begun r x ys i.0 i.1);
+      stops = λ vs x h rest. ap (push_read vs) (k.none x rest (k.stops x h));
       weaker = λ vs. k.weaker;
-      turn = λ vs x e. turn_map (λ v. vs ++ v ∷ []) (λ r xs v h. (v, h, refl)) (λ r xs ws h. h) (k.turn x e);
-    }
+    } where
+      begun : (r : ℕ) (x : T) (ys : List T) (v : V) → Is r (x ∷ ys) v → starts x ≡ true
+      begun r x ys v h = let first = k.begins r (x ∷ ys) v h in let same : x ≡ first.0 = (let whole = first.2 in cc) in rw same first.3
+
+      by : (vs : List V) (x : T) (b : Bool) → starts x ≡ b → At (IsPushed Is vs) each levels_left (push member vs) x
+      by vs x true e = goes (λ xs. map_read (λ v. vs ++ v ∷ []) (reader xs)) (λ rest. ap (push_read vs) (k.some x rest e))
+          (turn_as (λ v. vs ++ v ∷ []) reader (λ rest. refl) (λ y h. h) (λ r ys v h. (v, h, refl)) (λ r ys ws h. h) (k.turn x e))
+      by vs x false e = stays (λ rest. ap (push_read vs) (k.none x rest e)) (λ r ys ws h. let yes = begun r x ys h.0 h.1 in cc)
 
   listed : (Is : Grammar T V) (r : ℕ) (vs : List V) (xs : List T) (ws : List V) → Steps (IsPushed Is) r vs xs ws →
       (us : List V) × AreAll Is r xs us × (ws ≡ vs ++ us)
@@ -97,3 +103,23 @@ module _ {T V : Type 0} where
     lift : (r : ℕ) (xs : List T) (v : V) → IsAfter is Is r xs v → IsAfter is Is (suc (suc r)) xs v
     lift r [] v h = h
     lift r (x ∷ ys) v h = (h.0, lift_form r ys v h.1)
+
+  -- a member at any terminal that is left
+  pub each_member : {Is : Grammar T V} {levels_left : ℕ} {member : List T → Option (Answer T V)} {reader : Reader T V} → member [] ≡ None →
+      ((x : T) (rest : List T) → member (x ∷ rest) ≡ Some (reader (x ∷ rest))) → ((r : ℕ) (v : V) → Is r [] v → ⊥) →
+      ((r : ℕ) (xs : List T) (v : V) → Is r xs v → Is (suc (suc r)) xs v) → Exact Is Any levels_left reader →
+      Member Is Any Never levels_left member (λ x. true) reader
+  each_member {Is = Is} at_end some_here nothing lift k = record {
+    at_end = at_end;
+    none = λ x rest e. cc;
+    some = λ x rest e. some_here x rest;
+    begins = begins;
+    lift = lift;
+    follows = λ x e. tt;
+    stops = λ x h. absurd h;
+    weaker = λ x h. tt;
+    turn = λ x e. turn_of k x;
+  } where
+    begins : (r : ℕ) (xs : List T) (v : V) → Is r xs v → (x : T) × (ys : List T) × (xs ≡ x ∷ ys) × (true ≡ true)
+    begins r [] v h = absurd (nothing r v h)
+    begins r (x ∷ ys) v h = (x, ys, refl, refl)

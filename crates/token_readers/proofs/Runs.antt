@@ -2,23 +2,8 @@
 use Rattle.std.proofs.Common.{◌≡◌, ℕ, suc, List, [], ◌∷◌, ◌++◌, refl, ap, sym, ◌∙◌, append_assoc}
 use Rattle.std.specs.Prelude.{Ok, Err}
 use Rattle.token_readers.specs.Readers.{form, deep, Answer, Reader, map_read}
-use Rattle.token_readers.specs.Exact.{
-  Grammar,
-  SameFirst,
-  both_end,
-  both_begin,
-  Before,
-  Ending,
-  gives,
-  wrong,
-  too_deep,
-  ends_with,
-  Begins,
-  Says,
-  Run,
-  Agrees,
-  Exact,
-}
+use Rattle.token_readers.specs.Exact.{Grammar, SameFirst, both_end, both_begin, Before, Ending, gives, wrong, too_deep, ends_with, Begins}
+use Rattle.token_readers.specs.Exact.{Says, Run, Agrees, Exact}
 
 module _ {T : Type 0} where
   pub same_first : (xs : List T) → SameFirst xs xs
@@ -71,41 +56,38 @@ module _ {T V W : Type 0} where
   map_ends make wrong xs = refl
   map_ends make too_deep xs = refl
 
-  begins_after : (Is : List T → V → Type 0) (Made : List T → W → Type 0) (make : V → W) (first : List T) →
-      ((ys : List T) (v : V) → Is ys v → Made (first ++ ys) (make v)) → (front : List T) → Begins Is front → Begins Made (first ++ front)
-  begins_after Is Made make first to front b =
-      let derived : Made (first ++ (front ++ b.ending)) (make b.value) = to (front ++ b.ending) b.value b.derives in
-      record { ending = b.ending; value = make b.value; derives = rw append_assoc derived }
+  module _ {Is : Grammar T V} (Made : Grammar T W) (make : V → W) (first : List T)
+      (to : (r : ℕ) (ys : List T) (v : V) → Is r ys v → Made r (first ++ ys) (make v)) where
+    begins_after : (r : ℕ) (front : List T) → Begins (Is r) front → Begins (Made r) (first ++ front)
+    begins_after r front b =
+        let derived : Made r (first ++ (front ++ b.ending)) (make b.value) = to r (front ++ b.ending) b.value b.derives in
+        record { ending = b.ending; value = make b.value; derives = rw append_assoc derived }
 
-  says_after : (Is : Grammar T V) (Made : Grammar T W) (make : V → W) (first : List T) →
-      ((r : ℕ) (ys : List T) (v : V) → Is r ys v → Made r (first ++ ys) (make v)) → (levels_left : ℕ) (outcome : Ending V) (front rest : List T) →
-      Says Is levels_left outcome front rest → Says Made levels_left (map_outcome make outcome) (first ++ front) rest
-  says_after Is Made make first to levels_left (gives v) front rest h = to levels_left front v h
-  says_after Is Made make first to levels_left wrong front rest h = begins_after (Is levels_left) (Made levels_left) make first (to levels_left) front h
-  says_after Is Made make first to levels_left too_deep front [] h = absurd h
-  says_after Is Made make first to levels_left too_deep front (x ∷ rest) h = (
-    begins_after (Is levels_left) (Made levels_left) make first (to levels_left) front h.0,
-    rw append_assoc (begins_after (Is (suc (suc levels_left))) (Made (suc (suc levels_left))) make first (to (suc (suc levels_left))) (front ++ x ∷ []) h.1),
-  )
+    says_after : (levels_left : ℕ) (outcome : Ending V) (front rest : List T) → Says Is levels_left outcome front rest →
+        Says Made levels_left (map_outcome make outcome) (first ++ front) rest
+    says_after levels_left (gives v) front rest h = to levels_left front v h
+    says_after levels_left wrong front rest h = begins_after levels_left front h
+    says_after levels_left too_deep front [] h = absurd h
+    says_after levels_left too_deep front (x ∷ rest) h =
+        (begins_after levels_left front h.0, rw append_assoc (begins_after (suc (suc levels_left)) (front ++ x ∷ []) h.1))
 
-  -- A run of a reader gives one of another that reads the same after these first terminals, with another value.
-  pub run_after : {Is : Grammar T V} {Made : Grammar T W} {levels_left : ℕ} {reader : Reader T V} {xs : List T} (make : V →
-      W) (first : List T) (other : Reader T W) →
-      ((ys : List T) → SameFirst xs ys → other (first ++ ys) ≡ map_read make (reader ys)) →
-      ((r : ℕ) (ys : List T) (v : V) → Is r ys v → Made r (first ++ ys) (make v)) → Run Is levels_left reader xs →
-      Run Made levels_left other (first ++ xs)
-  run_after {Is = Is} {Made = Made} {levels_left = levels_left} {reader = reader} {xs = xs} make first other agree to k = record {
-    front = first ++ k.front;
-    rest = k.rest;
-    outcome = map_outcome make k.outcome;
-    split = ap (λ ys. first ++ ys) k.split ∙ sym (append_assoc first k.front k.rest);
-    reads = λ ys same.
-        ap other (append_assoc first k.front ys) ∙ agree (k.front ++ ys) (same_split k.front k.rest xs ys k.split same)
-        ∙ ap (map_read make) (k.reads ys same) ∙ map_ends make k.outcome ys;
-    says = says_after Is Made make first to levels_left k.outcome k.front k.rest k.says;
-  }
+    -- A run of a reader gives one of another that reads the same after these first terminals, with another value.
+    pub run_after : {levels_left : ℕ} {reader : Reader T V} {xs : List T} (other : Reader T W) →
+        ((ys : List T) → SameFirst xs ys → other (first ++ ys) ≡ map_read make (reader ys)) → Run Is levels_left reader xs →
+        Run Made levels_left other (first ++ xs)
+    run_after {levels_left = levels_left} {xs = xs} other agree k = record {
+      front = first ++ k.front;
+      rest = k.rest;
+      outcome = map_outcome make k.outcome;
+      split = ap (λ ys. first ++ ys) k.split ∙ sym (append_assoc first k.front k.rest);
+      reads = λ ys same.
+          ap other (append_assoc first k.front ys) ∙ agree (k.front ++ ys) (same_split k.front k.rest xs ys k.split same)
+          ∙ ap (map_read make) (k.reads ys same) ∙ map_ends make k.outcome ys;
+      says = says_after levels_left k.outcome k.front k.rest k.says;
+    }
 
-  pub agrees_map : (make : V → W) (levels_left needed : ℕ) (v : V) (rest : List T) (answer : Answer T V) → Agrees levels_left needed v rest answer →
+  pub agrees_map : (make : V → W) (levels_left needed : ℕ) (v : V) (rest : List T) (answer : Answer T V) →
+      Agrees levels_left needed v rest answer →
       Agrees levels_left needed (make v) rest (map_read make answer)
   agrees_map make levels_left needed v rest (Ok (w, left)) h = (ap make h.0, h.1)
   agrees_map make levels_left needed v rest (Err (form left)) h = h
@@ -117,7 +99,7 @@ module _ {T V W : Type 0} where
       ((r : ℕ) (xs : List T) (w : W) → Made r xs w → (v : V) × Is r xs v × (w ≡ make v)) →
       Exact Is ends levels_left reader → Exact Made ends levels_left (λ xs. map_read make (reader xs))
   exact_map {levels_left = levels_left} {reader = reader} make to from k = record {
-    run = λ xs. run_after make [] (λ ys. map_read make (reader ys)) (λ ys same. refl) to (k.run xs);
+    run = λ xs. run_after _ make [] to (λ ys. map_read make (reader ys)) (λ ys same. refl) (k.run xs);
     complete = λ r xs w h rest b.
         let is = from r xs w h in
         rw is.2 (agrees_map make levels_left r is.0 rest (reader (xs ++ rest)) (k.complete r xs is.0 is.1 rest b));
@@ -129,6 +111,15 @@ module _ {T V : Type 0} where
       ((r : ℕ) (xs : List T) (v : V) → Is r xs v → Others r xs v) → ((r : ℕ) (xs : List T) (v : V) → Others r xs v → Is r xs v) →
       ((x : T) → fewer x → ends x) → Exact Is ends levels_left reader → Exact Others fewer levels_left reader
   exact_as {ends = ends} {fewer = fewer} {reader = reader} to from weaker k = record {
-    run = λ xs. run_after (λ v. v) [] reader (λ ys same. sym (map_same (reader ys))) to (k.run xs);
+    run = λ xs. run_after _ (λ v. v) [] to reader (λ ys same. sym (map_same (reader ys))) (k.run xs);
     complete = λ r xs v h rest b. k.complete r xs v (from r xs v h) rest (before_map fewer ends weaker rest b);
   }
+
+  -- two grammars that derive the same
+  pub record Same (Is Others : Grammar T V) : Type 0 where
+    pub to : (r : ℕ) (xs : List T) (v : V) → Is r xs v → Others r xs v
+    pub from : (r : ℕ) (xs : List T) (v : V) → Others r xs v → Is r xs v
+
+  pub exact_same : {Is Others : Grammar T V} {ends : T → Type 0} {levels_left : ℕ} {reader : Reader T V} → Same Is Others →
+      Exact Others ends levels_left reader → Exact Is ends levels_left reader
+  exact_same same k = exact_as same.from same.to (λ x h. h) k

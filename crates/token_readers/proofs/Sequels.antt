@@ -4,19 +4,16 @@ use Rattle.std.specs.Prelude.{Option}
 use Rattle.token_readers.specs.Readers.{Reader, and_then, map_read}
 use Rattle.token_readers.specs.Exact.{Grammar, Before, Begins, Exact}
 use Rattle.token_readers.proofs.Runs.{exact_map}
-use Rattle.token_readers.proofs.Then.{Any, IsThen, exact_then}
+use Rattle.token_readers.proofs.Then.{Any, before_any, IsThen, exact_then}
 use Rattle.token_readers.proofs.Taken.{IsOne, IsEnd, Never}
-
-before_any : {T : Type 0} (xs : List T) → Before Any xs
-before_any [] = tt
-before_any (x ∷ xs) = tt
 
 module _ {T V W : Type 0} where
   -- another value of a form
   abbrev pub IsMapped : (V → W) → Grammar T V → Grammar T W
   IsMapped make Is r xs w = (v : V) × Is r xs v × (w ≡ make v)
 
-  pub mapped_exact : (make : V → W) {Is : Grammar T V} {ends : T → Type 0} {levels_left : ℕ} {reader : Reader T V} → Exact Is ends levels_left reader →
+  pub mapped_exact : (make : V → W) {Is : Grammar T V} {ends : T → Type 0} {levels_left : ℕ} {reader : Reader T V} →
+      Exact Is ends levels_left reader →
       Exact (IsMapped make Is) ends levels_left (λ xs. map_read make (reader xs))
   mapped_exact make k = exact_map make (λ r xs v h. (v, h, refl)) (λ r xs w h. h) k
 

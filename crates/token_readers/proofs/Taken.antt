@@ -26,25 +26,26 @@ module _ {T V : Type 0} where
 
   pub taken_exact : (value : T → Option V) → HasExample value → (levels_left : ℕ) → Exact (IsTaken value) Any levels_left (taking value)
   unfolding taking
-  taken_exact value e levels_left = by_first (end_wrong refl (taken_begins value e levels_left) (λ r v h. nothing r v h)) (λ x. by x (value x) refl) where
-    nothing : (r : ℕ) (v : V) → IsTaken value r [] v → ⊥
-    nothing r v h = let same = h.1 in cc
+  taken_exact value e levels_left =
+      by_first (end_wrong refl (taken_begins value e levels_left) (λ r v h. nothing r v h)) (λ x. by x (value x) refl) where
+        nothing : (r : ℕ) (v : V) → IsTaken value r [] v → ⊥
+        nothing r v h = let same = h.1 in cc
 
-    only : (x : T) (v : V) → value x ≡ Some v → (r : ℕ) (ys : List T) (w : V) → IsTaken value r (x ∷ ys) w → (ys ≡ []) × (w ≡ v)
-    only x v is r ys w h =
-        let first : x ≡ h.0 = cc in
-        let found : Some v ≡ Some w = sym is ∙ ap value first ∙ h.2 in
-        (cc, cc)
+        only : (x : T) (v : V) → value x ≡ Some v → (r : ℕ) (ys : List T) (w : V) → IsTaken value r (x ∷ ys) w → (ys ≡ []) × (w ≡ v)
+        only x v is r ys w h =
+            let first : x ≡ h.0 = cc in
+            let found : Some v ≡ Some w = sym is ∙ ap value first ∙ h.2 in
+            (cc, cc)
 
-    none_is : (x : T) → value x ≡ None → (r : ℕ) (ys : List T) (w : V) → IsTaken value r (x ∷ ys) w → ⊥
-    none_is x is r ys w h =
-        let first : x ≡ h.0 = cc in
-        let found : None ≡ Some w = sym is ∙ ap value first ∙ h.2 in
-        cc
+        none_is : (x : T) → value x ≡ None → (r : ℕ) (ys : List T) (w : V) → IsTaken value r (x ∷ ys) w → ⊥
+        none_is x is r ys w h =
+            let first : x ≡ h.0 = cc in
+            let found : None ≡ Some w = sym is ∙ ap value first ∙ h.2 in
+            cc
 
-    by : (x : T) (o : Option V) → value x ≡ o → Turn (IsTaken value) Any levels_left (taking value) x
-    by x (Some v) is = turn_alone v (λ rest. ap (λ o. value_or_wrong o x rest) is) (λ r. (x, refl, is)) (only x v is)
-    by x None is = turn_wrong (λ rest. ap (λ o. value_or_wrong o x rest) is) (taken_begins value e levels_left) (none_is x is)
+        by : (x : T) (o : Option V) → value x ≡ o → Turn (IsTaken value) Any levels_left (taking value) x
+        by x (Some v) is = turn_alone v (λ rest. ap (λ o. value_or_wrong o x rest) is) (λ r. (x, refl, is)) (only x v is)
+        by x None is = turn_wrong (λ rest. ap (λ o. value_or_wrong o x rest) is) (taken_begins value e levels_left) (none_is x is)
 
 -- nothing more
 abbrev pub IsEnd : {T : Type 0} → Grammar T (Unit {0})

@@ -1,12 +1,13 @@
 -- Readers of whole texts: they stop at the end alone. What they say of a text that they read, and of one that they refuse.
-use Rattle.std.proofs.Common.{◌≡◌, ℕ, suc, ◌≤◌, List, [], ◌∷◌, ◌++◌, length, refl, ap, sym, ◌∙◌, subst, append_assoc, length-append, arith}
-use Rattle.std.proofs.lemmas.List.{append-nil}
-use Rattle.std.specs.Prelude.{Ok, Err}
-use Rattle.token_readers.specs.Readers.{form, Answer, Reader, and_then, map_read, at_end}
-use Rattle.token_readers.specs.Exact.{SameFirst, both_begin, Begins, Exact}
-use Rattle.token_readers.proofs.Runs.{same_first, same_read}
-use Rattle.token_readers.proofs.Iterates.{taken}
-use Rattle.token_readers.proofs.Whole.{FirstForm, first_form}
+use Rattle.std.proofs.Common.{◌≡◌, suc, ◌≤◌, true, List, [], ◌∷◌, ◌++◌, length, ℕ, refl, ap, sym, ◌∙◌}
+use Rattle.std.specs.Prelude.{Option, Some, None, Ok, Err}
+use Rattle.token_readers.specs.Readers.{form, Answer, Reader, and_then, map_read, at_end, push, push_read, members}
+use Rattle.token_readers.specs.Exact.{Grammar, Begins, Exact}
+use Rattle.token_readers.proofs.Runs.{same_read}
+use Rattle.token_readers.proofs.Iterates.{no_step_left, step_shrinks}
+use Rattle.token_readers.proofs.Lists.{Member, stepping}
+use Rattle.token_readers.proofs.Whole.{derives_all}
+use Rattle.token_readers.proofs.FirstFaults as first
 use Rattle.token_readers.proofs.Taken.{Never}
 
 -- a reader that stops at the end alone
@@ -34,57 +35,43 @@ ends_then {T = T} {V = V} {W = W} reader {next = next} k =
       by w rest (Ok (v, left)) h = (k v).ends left w rest h
       by w rest (Err fault) h = cc
 
--- one list splits in one way
-one_split : {T : Type 0} (f front r rest : List T) → f ++ r ≡ front ++ rest → length r ≡ length rest → (f ≡ front) × (r ≡ rest)
-one_split [] [] r rest e same = (refl, e)
-one_split [] (x ∷ front) r rest e same =
-    let whole : length r ≡ suc (length (front ++ rest)) = ap length e in
-    absurd (omega (arith, whole, same, length-append front rest))
-one_split (x ∷ f) [] r rest e same =
-    let whole : suc (length (f ++ r)) ≡ length rest = ap length e in
-    absurd (omega (arith, whole, same, length-append f r))
-one_split (x ∷ f) (y ∷ front) r rest e same =
-    let first : x ≡ y = cc in
-    let others : f ++ r ≡ front ++ rest = cc in
-    let tails = one_split f front r rest others same in
-    (ap (λ z. z ∷ f) first ∙ ap (λ zs. y ∷ zs) tails.0, tails.1)
+module _ {T V : Type 0} {Is : Grammar T V} {starts ends : T → Type 0} {levels_left : ℕ} {member : List T → Option (Answer T V)}
+    {reader : Reader T V} where
+  -- so do members that are read as long as any terminal is left
+  pub ends_members : Member Is starts ends levels_left member (λ x. true) reader → Ends (members member)
+  ends_members k = record { ends = by } where
+    by : (xs : List T) (vs : List V) (rest : List T) → members member xs ≡ Ok (vs, rest) → rest ≡ []
+    by xs vs [] h = refl
+    by xs vs (x ∷ rest) h =
+        let none : push member vs (x ∷ rest) ≡ None = no_step_left (step_shrinks (stepping k)) [] xs vs (x ∷ rest) h in
+        let some : push member vs (x ∷ rest) ≡ push_read vs (Some (reader (x ∷ rest))) = ap (push_read vs) (k.some x rest refl) in
+        cc
+
+-- what is read derives
+pub whole_derives : {T V : Type 0} {Is : Grammar T V} {ends : T → Type 0} {levels_left : ℕ} {reader : Reader T V} →
+    Exact Is ends levels_left reader →
+    Ends reader → (xs : List T) (v : V) (rest : List T) → reader xs ≡ Ok (v, rest) → (rest ≡ []) × Is levels_left xs v
+whole_derives exact k xs v rest h = (k.ends xs v rest h, derives_all exact xs v rest h (k.ends xs v rest h))
 
 module _ {T V : Type 0} {Is : List T → V → Type 0} {reader : Reader T V} (exact : Exact (λ r. Is) Never 0 reader) where
-  first : (xs : List T) (left : ℕ) → reader xs ≡ Err (form left) → FirstForm (λ r. Is) 0 xs left
-  first xs left h = first_form exact xs left h
-
-  -- what is read derives
   pub read_derives : Ends reader → (xs : List T) (v : V) (rest : List T) → reader xs ≡ Ok (v, rest) → Is xs v
-  read_derives ends xs v rest h =
-      let front = taken xs (exact.run xs) v rest h in
-      let none : rest ≡ [] = ends.ends xs v rest h in
-      subst (λ ys. Is ys v) (sym (front.1 ∙ ap (λ r. front.0 ++ r) none ∙ append-nil front.0)) front.2
+  read_derives ends xs v rest h = (whole_derives exact ends xs v rest h).1
 
   pub form_within : (xs : List T) (left : ℕ) → reader xs ≡ Err (form left) → left ≤ length xs
-  form_within xs left h =
-      let f = first xs left h in
-      let whole : length xs ≡ length (f.front ++ f.rest) = ap length f.split in
-      omega (arith, whole, f.place, length-append f.front f.rest)
+  form_within xs left h = first.form_within exact xs left h
 
   -- nothing begins with the terminals up to and with the faulty one
   pub stops : (xs : List T) (left : ℕ) → reader xs ≡ Err (form left) → (front : List T) (x : T) (more : List T) →
       xs ≡ front ++ x ∷ more → left ≡ suc (length more) → (zs : List T) (v : V) → Is ((front ++ x ∷ []) ++ zs) v → ⊥
-  stops xs left h front x more split here zs v derived =
-      let f = first xs left h in
-      let same = one_split f.front front f.rest (x ∷ more) (sym f.split ∙ split) (sym f.place ∙ here) in
-      let begins : SameFirst f.rest (x ∷ zs) = rw same.1 (both_begin x more zs) in
-      f.stops (x ∷ zs) begins 0 v (rw (same.0, ← append_assoc front (x ∷ []) zs) derived)
+  stops xs left h front x more split here = first.form_stops exact xs left h front x more split here 0
 
   -- something begins with those before it
   pub begins_before : (xs : List T) (left : ℕ) → reader xs ≡ Err (form left) → (front rest : List T) → xs ≡ front ++ rest →
       left ≡ length rest → Begins Is front
   begins_before xs left h front rest split here =
-      let f = first xs left h in
-      let same = one_split f.front front f.rest rest (sym f.split ∙ split) (sym f.place ∙ here) in
-      rw (← same.0) f.begins
+      let begins = first.form_begins exact xs left h front rest split here in
+      record { ending = begins.0; value = begins.1; derives = begins.2 }
 
   -- and the whole has no value
   pub no_value : (xs : List T) (left : ℕ) → reader xs ≡ Err (form left) → (v : V) → Is xs v → ⊥
-  no_value xs left h v derived =
-      let f = first xs left h in
-      f.stops f.rest (same_first f.rest) 0 v (rw (← f.split) derived)
+  no_value xs left h = first.no_value exact xs left h 0

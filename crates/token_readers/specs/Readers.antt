@@ -24,11 +24,6 @@ module _ {T V : Type 0} where
   abbrev pub deep_at : Reader T V
   deep_at xs = Err (deep (length xs))
 
-  -- what was read before, where a terminal follows that passes the test
-  unfoldable pub closing : (T → Bool) → V → Reader T V
-  closing is v [] = form_at []
-  closing is v (x ∷ rest) = if is x then Ok (v, rest) else form_at (x ∷ rest)
-
   -- the value of the first terminal, where it has one
   abbrev pub value_or_wrong : Option V → T → Reader T V
   value_or_wrong (Some v) x rest = Ok (v, rest)
@@ -43,6 +38,11 @@ module _ {T V : Type 0} where
   unfoldable pub after : (T → Bool) → Reader T V → Reader T V
   after is reader [] = form_at []
   after is reader (x ∷ rest) = if is x then reader rest else form_at (x ∷ rest)
+
+-- a terminal that passes the test
+unfoldable pub closing : {T : Type 0} → (T → Bool) → Reader T (Unit {0})
+closing is [] = form_at []
+closing is (x ∷ rest) = if is x then Ok (tt {0}, rest) else form_at (x ∷ rest)
 
 -- nothing more
 unfoldable pub at_end : {T : Type 0} → Reader T (Unit {0})
@@ -62,7 +62,7 @@ module _ {T V W : Type 0} where
 
 -- a form after its opening bracket, and the closing one
 abbrev pub closed_by : {T V : Type 0} → (T → Bool) → Reader T V → Reader T V
-closed_by is inner xs = and_then (inner xs) (closing is)
+closed_by is inner xs = and_then (inner xs) (λ v ys. map_read (λ _. v) (closing is ys))
 
 module _ {T S : Type 0} where
   -- the state after a step where there is one, and then the further steps

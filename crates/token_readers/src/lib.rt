@@ -5,6 +5,6 @@
 //! - `specs/Exact.antt`: that a reader reads exactly a grammar, and each of its faults is the first.
 //! - `proofs/`: that each way to make a reader of others keeps this (`Then`, `Terminals`, `Levels`,
 //!   `Iterates`; `Taken` and `Sequels` where no levels are counted), what a loop has read so far
-//!   (`MemberLoops`), and what follows of a whole text (`Whole`, `WholeTexts`). `proofs/Examples.antt`
-//!   has a reader that takes all its laws from these.
+//!   (`MemberLoops`), and what follows of a whole text and of its faults (`Whole`, `WholeTexts`,
+//!   `FirstFaults`). `proofs/Examples.antt` has a reader that takes all its laws from these.
 #![tactic(auto)]

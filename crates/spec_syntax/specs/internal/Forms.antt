@@ -1,11 +1,11 @@
 -- Internal: only private functions of this crate use these words.
--- The forms that begin with a prefix, and how each is read.
-use Rattle.std.specs.Prelude.{Option}
+-- Forms, and how each is read.
+use Rattle.std.specs.Prelude.{Option, None, Some}
 use Rattle.spec_syntax.specs.declared.formulas.Form.{Form}
 use Rattle.spec_syntax.specs.declared.formulas.Form.TheVariants.{Prefix, Right, Formula}
-use Rattle.token_readers.specs.Readers.{Reader}
-use Rattle.spec_syntax.specs.Syntax.{Terminal, FormulaSyntax}
-use Rattle.spec_syntax.specs.Reading.{Level, prefix_with, right_with, formula_with}
+use Rattle.token_readers.specs.Readers.{Reader, map_read}
+use Rattle.spec_syntax.specs.Syntax.{Terminal, TermSyntax, FormulaSyntax}
+use Rattle.spec_syntax.specs.Reading.{Level, above, beyond, bracketed_term}
 
 -- a level's reader of the form
 abbrev pub reader_of : Form → Level → Reader Terminal FormulaSyntax
@@ -15,6 +15,9 @@ reader_of Formula l = l.formula
 
 -- a form above this level
 abbrev pub form_with : Form → Option Level → Reader Terminal FormulaSyntax
-form_with Prefix lower = prefix_with lower
-form_with (Right kind) lower = right_with kind lower
-form_with Formula lower = formula_with lower
+form_with form lower = reader_of form (above lower)
+
+-- after a name and an opening bracket: a term and the closing one
+abbrev pub opened_term : Option Level → Reader Terminal (Option TermSyntax)
+opened_term None xs = beyond xs
+opened_term (Some l) xs = map_read (λ t. Some t) (bracketed_term l xs)
