@@ -42,7 +42,6 @@ use Rattle.flow_program.proofs.WrittenIsRead.Runs.{Run, no_run, a_word, joined, 
 use Rattle.flow_program.proofs.WrittenIsRead.Runs.{all_part, flat_map_of_map}
 use Rattle.flow_program.specs.internal.Numbering.{small, numbered, numbered_term, numbered_listed, numbered_equated}
 use Rattle.flow_program.specs.internal.Numbering.{numbered_left, numbered_window, numbered_node, window_of}
-use Rattle.flow_program.proofs.SpelledLines.{behind, window_apart, branch_apart, set_apart}
 use Rattle.flow_program.proofs.NumberLemmas.{small_is, listed_numbered, equated_numbered, window_numbered, branch_numbered, assignment_numbered}
 use Rattle.flow_program.proofs.WrittenIsRead.ListingOfTerms.{HeldUse, name_part, number_at, applied_held, term_part, ListingOfTest, test_part}
 
@@ -265,7 +264,7 @@ module _ (names : List NameEntry) (distinct : AreDistinct names) (readable : Lis
       Part text (λ (l : OneEquality x). equated_pieces l.line) (equated_text names x)
   equality_part x writable reads few =
       made (beside (exactly (codes " when ")) (placed_part x.probe x.offset writable reads))
-      (behind (codes " when ") (probe_text names x.probe) (codes " at ") (decimal x.offset)) (λ l. equated_pieces l.line) (λ y. record {
+      (simp append_assoc) (λ l. equated_pieces l.line) (λ y. record {
         line = placed_at x.offset y.1;
         numbered_is = equated_numbered names text (placed_at x.offset y.1) x.probe y.1.numbered_is (small_is x.offset (omega (arith, few)));
         holds = placed_kept x.probe x.offset writable few y.1;
@@ -338,8 +337,7 @@ module _ (names : List NameEntry) (distinct : AreDistinct names) (readable : Lis
       (equalities_part x.length k.length_short x.equalities
       (sym (list_all-map (probe_is_writable names) (λ (y : EquatedTree). y.probe) x.equalities) ∙ tests.0) k.equalities_read k.offsets)))))
       (exactly (codes "\n")))
-      (window_apart (codes "window ") (left_text names x.left x.left_at) (codes " is ") (probe_text names x.right) (codes " at ")
-      (decimal x.length) (flat_map (listed_text names) x.updates) (flat_map (equated_text names) x.equalities) (codes "\n"))
+      (simp append_assoc)
       (λ l. ended_pieces (window_tree_line l.line)) (λ y.
       let l = y.0.1.0 in
       let r = placed_at x.length y.0.1.1.0 in
@@ -417,8 +415,7 @@ module _ (names : List NameEntry) (distinct : AreDistinct names) (readable : Lis
         made (beside (beside (exactly (codes "node ")) (beside (exactly (decimal number)) (beside (exactly (codes " if "))
         (beside (test_part names distinct readable text t fit.0 keeps.2) (beside (exactly (codes " then ")) (beside (exactly (decimal a))
         (beside (exactly (codes " else ")) (exactly (decimal b))))))))) (exactly (codes "\n")))
-        (branch_apart (codes "node ") (decimal number) (codes " if ") (probe_text names t) (codes " then ") (decimal a) (codes " else ")
-        (decimal b) (codes "\n")) (λ l. ended_pieces (node_tree_line number l.line)) (λ x.
+        (simp append_assoc) (λ l. ended_pieces (node_tree_line number l.line)) (λ x.
         let p = x.0.1.1.1.0 in
         record {
           line = branch_line p.surface a b;
@@ -440,8 +437,7 @@ module _ (names : List NameEntry) (distinct : AreDistinct names) (readable : Lis
         (beside (set_part controlled ts keeps.0 controlled_fit writable keeps.2) (beside (exactly (codes " go "))
         (exactly (decimal go)))))))
         (exactly (codes "\n")))
-        (set_apart (codes "node ") (decimal number) (codes " set") (updates_text names controlled ts) (codes " go ") (decimal go)
-        (codes "\n"))
+        (simp append_assoc)
         (λ l. ended_pieces (node_tree_line number l.line)) (λ x.
         let p = x.0.1.1.1.0 in
         record {

@@ -48,7 +48,8 @@ use Rattle.tsl_terms.specs.declared.names.NameKind.TheVariants.{Signal, Function
 use Rattle.tsl_terms.specs.Name.{same_kind, is_name}
 use Rattle.flow_program.specs.Reading.{GoOnFrom}
 use Rattle.flow_program.specs.internal.Numbering.{Numbered}
-use Rattle.flow_program.proofs.SpelledLines.{eight_joined}
+use Rattle.std.proofs.lemmas.Grind.{flat_map-append}
+use Rattle.std.proofs.Common.{append_assoc}
 use Rattle.flow_program.proofs.NumberLemmas.{place_at}
 use Rattle.flow_program.proofs.CellPlaces.{placed_some, second_once, AreListed, are_listed, within_alike, rise_alike}
 use Rattle.flow_program.proofs.EquatedLines.{are_equated, test_of_equality, in_order_alike, tests_within, lines_within}
@@ -321,9 +322,7 @@ module _ (text : List ℕ) (names : List NameEntry) (distinct : AreDistinct name
         outputs = x.0.0.0.0.1;
         windows = x.0.0.0.1;
         nodes = x.0.0.1;
-      }) (λ x. eight_joined ended_pieces (head_line ∷ []) (map input x.0.0.0.0.0.0.1.lines) (map cell x.0.0.0.0.0.1.lines)
-      (map output x.0.0.0.0.1.lines) (map window_tree_line x.0.0.0.1.lines) (node_lines 0 x.0.0.1.lines) (state_lines 0 p.states)
-      (end_line ∷ []))
+      }) (λ x. simp (flat_map-append, append_assoc))
 
   found : (l : Lines) × Run (flat_map ended_pieces (listing_lines (listing_at l))) [] (program_text names p)
   found = lines_part.runs [] ([], h.text ∙ sym (append-nil (program_text names p)))
