@@ -53,15 +53,6 @@ pub are_first : (given us : List Name) → AreDistinct given → with_uses given
 are_first given us distinct =
     ap (λ names. with_uses names us) (sym (distinct_are given [] distinct)) ∙ sym (with_uses_append [] given us)
 
--- a text that stands after others has a first one
-pub first_behind : (xs ys : List Name) (text : List ℕ) (f : Name) → first_of ys text ≡ Some f →
-    (g : Name) × (first_of (xs ++ ys) text ≡ Some g)
-first_behind [] ys text f h = (f, h)
-first_behind (x ∷ xs) ys text f h = by (bytes_eq text x.text) (first_behind xs ys text f h) where
-  by : (is : Bool) → (g : Name) × (first_of (xs ++ ys) text ≡ Some g) → (g : Name) × (cond is (Some x) (first_of (xs ++ ys) text) ≡ Some g)
-  by true k = (x, refl)
-  by false k = k
-
 -- names that may be written stay so
 added_fits : (names : List Name) (u : Name) (found : Option ℕ) → IsTrue (list_all name_fits names) → IsTrue (name_fits u) →
     IsTrue (list_all name_fits (added_unless_found names u found))
