@@ -72,7 +72,7 @@ module _ (given : List Name) (distinct : AreDistinct given) (us : List ProgramUs
   abbrev all : List Name
   all = given ++ flat_map entries_of_use us
 
-  named_is_first : (text : List ℕ) → name_with (names_after given us) text ≡ first_of all text
+  pub named_is_first : (text : List ℕ) → name_with (names_after given us) text ≡ first_of all text
   named_is_first text = ap (λ names. name_with names text) (are_first given (flat_map entries_of_use us) distinct) ∙ named_first all text
 
   -- the names that get numbers by a use have a first one of their text

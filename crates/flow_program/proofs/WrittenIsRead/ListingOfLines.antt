@@ -1,7 +1,7 @@
 -- The lines of a program stand in the text that spells it.
 use Rattle.std.proofs.Common.{◌≡◌, ℕ, zero, suc, ◌+◌, ◌<◌, ◌≤◌, true, false, not, ◌&&◌, List, [], ◌∷◌, ◌++◌, refl, ap, sym, subst}
 use Rattle.std.proofs.Common.{◌∙◌}
-use Rattle.std.proofs.Common.{arith, Bool, length, map, flat_map}
+use Rattle.std.proofs.Common.{arith, Bool, cond, length, map, flat_map}
 use Rattle.std.proofs.Common.{append_assoc}
 use Rattle.std.specs.Prelude.{Option, Some, None, option_map, nat_le, nat_lt, codes, decimal, slice_get, bytes_eq, IsTrue}
 use Rattle.std.specs.List.{list_all, AllByRecursion}
@@ -37,7 +37,7 @@ use Rattle.program_listing.specs.Listing.{branch_line, assignment_line, left_ste
 use Rattle.flow_program.specs.Uses.{ProgramUse, signal_use, term_uses, update_uses, listed_uses, placed_uses, left_uses, window_uses}
 use Rattle.flow_program.specs.Uses.{node_uses}
 use Rattle.flow_program.specs.Uses.{line_uses, nodes_uses}
-use Rattle.flow_program.specs.Rules.{are_texts, breaks_order, goes_nowhere, breaks_updates}
+use Rattle.flow_program.specs.Rules.{first_place, are_texts, breaks_order, goes_nowhere, breaks_updates}
 use Rattle.flow_program.proofs.WrittenIsRead.Runs.{Run, no_run, a_word, joined, Part, nothing, exactly, beside, made, ListingOfOne, ListingOfAll}
 use Rattle.flow_program.proofs.WrittenIsRead.Runs.{all_part, flat_map_of_map}
 use Rattle.flow_program.specs.internal.Numbering.{small, numbered, numbered_term, numbered_listed, numbered_equated}
@@ -47,6 +47,17 @@ use Rattle.flow_program.proofs.WrittenIsRead.ListingOfTerms.{HeldUse, name_part,
 
 pub short_is : (n : ℕ) → n ≤ 65536 → is_short n ≡ true
 short_is n h = lt-ltb n 1000000000000000000 (omega (arith, h))
+
+-- no first place of a test goes on over one more that fails it
+next_place : {X : Type 0} (test : ℕ → X → Bool) (k : ℕ) (x : X) (xs : List X) → test k x ≡ false → first_place test (suc k) xs ≡ None →
+    first_place test k (x ∷ xs) ≡ None
+next_place test k x xs here rest = ap (λ b. cond b (Some k) (first_place test (suc k) xs)) here ∙ rest
+
+-- nor is there one where all fail it, whatever their place
+pub none_place : {X : Type 0} (test : ℕ → X → Bool) (xs : List X) → ((k i : ℕ) (x : X) → slice_get xs i ≡ Some x → test k x ≡ false) →
+    (k : ℕ) → first_place test k xs ≡ None
+none_place test [] h k = refl
+none_place test (x ∷ xs) h k = next_place test k x xs (h k 0 x refl) (none_place test xs (λ n i. h n (suc i)) (suc k))
 
 -- what a window of a program keeps
 pub record KeptWindow (readable cells : List ℕ) (x : WindowTree) : Type 0 where
@@ -151,7 +162,7 @@ module _ (names : List NameEntry) (distinct : AreDistinct names) (readable : Lis
         numbered_is = p.numbered_is;
         text_is = n.bytes_are;
         flat = shallow p.surface (brackets t) p.deep term.1;
-        held = λ line. (applied_held names distinct readable text line Signal s 0 signal.0 signal.1 n, p.held line);
+        held = λ line. (applied_held names distinct readable text line Signal s 0 signal.0 n, p.held line);
       }) (λ x. refl)
 
   -- ---- the updates of an assignment
@@ -382,22 +393,21 @@ module _ (names : List NameEntry) (distinct : AreDistinct names) (readable : Lis
 
   module _ (controlled : List ℕ) (controlled_fit : list_all (signal_fits names) controlled ≡ true) (states : ℕ)
       (few_states : states ≤ 64) where
+    abbrev pub controlled_texts : List (List ℕ)
+    controlled_texts = map (name_text names) controlled
+
     -- what a node of a program keeps that stands at this place
     abbrev pub KeptNode : ℕ → NodeTree → Type 0
     KeptNode number (branch t a b) = (a < number) × (b < number) × IsTrue (read_only readable t.arguments)
     KeptNode number (assign ts go) = (length ts ≡ length controlled) × (go < states) × IsTrue (list_all (reads_only readable) ts)
 
-    -- the line of a node breaks no rule
-    pub record KeepsNode (number : ℕ) (line : NodeLine) : Type 0 where
-      pub order : breaks_order number line ≡ false
-      pub go : goes_nowhere states number line ≡ false
-      pub updates : breaks_updates text (map (name_text names) controlled) number line ≡ false
-
     pub record ListingOfNode (number : ℕ) (x : NodeTree) : Type 0 where
       pub line : NodeLine
       pub numbered_is : numbered_node names text line ≡ Some x
       pub within : line_is_within (node_tree_line number line) ≡ true
-      pub keeps : KeepsNode number line
+      pub order : breaks_order number line ≡ false
+      pub go : goes_nowhere states number line ≡ false
+      pub updates : breaks_updates text controlled_texts number line ≡ false
       pub held : (n : ℕ) → Held (node_uses text n line)
 
     same_texts : (xs ys : List (List ℕ)) → xs ≡ ys → are_texts xs ys ≡ true
@@ -424,11 +434,9 @@ module _ (names : List NameEntry) (distinct : AreDistinct names) (readable : Lis
           within = and_from (is_short number) _ (short_is number few)
               (and_from (is_shallow p.surface) _ (shallow p.surface (brackets_of_arguments t.arguments) p.deep fit.1)
               (and_from (is_short a) (is_short b) (short_is a a_few) (short_is b b_few)));
-          keeps = record {
-            order = ap not (and_from (nat_lt a number) (nat_lt b number) (lt-ltb a number keeps.0) (lt-ltb b number keeps.1));
-            go = refl;
-            updates = refl;
-          };
+          order = ap not (and_from (nat_lt a number) (nat_lt b number) (lt-ltb a number keeps.0) (lt-ltb b number keeps.1));
+          go = refl;
+          updates = refl;
           held = p.held;
         }) (λ x. refl)
     node_part number few (assign ts go) writable keeps =
@@ -445,11 +453,9 @@ module _ (names : List NameEntry) (distinct : AreDistinct names) (readable : Lis
           numbered_is = assignment_numbered names text p.updates ts go p.numbered_are (small_is go (omega (arith, go_few)));
           within = and_from (is_short number) _ (short_is number few)
               (and_from (list_all (λ u. is_shallow u.term) p.updates) (is_short go) p.flat (short_is go go_few));
-          keeps = record {
-            order = refl;
-            go = ap not (lt-ltb go states keeps.1);
-            updates = ap not (same_texts (map (λ u. name_bytes text u.signal) p.updates) (map (name_text names) controlled) p.texts_are);
-          };
+          order = refl;
+          go = ap not (lt-ltb go states keeps.1);
+          updates = ap not (same_texts (map (λ u. name_bytes text u.signal) p.updates) controlled_texts p.texts_are);
           held = p.held;
         }) (λ x. refl)
 
@@ -457,7 +463,9 @@ module _ (names : List NameEntry) (distinct : AreDistinct names) (readable : Lis
       pub lines : List NodeLine
       pub numbered_are : all_there (map (numbered_node names text) lines) ≡ Some xs
       pub within : list_all line_is_within (node_lines first lines) ≡ true
-      pub keep : (i : ℕ) (n : NodeLine) → slice_get lines i ≡ Some n → KeepsNode (first + i) n
+      pub order : first_place breaks_order first lines ≡ None
+      pub go : first_place (goes_nowhere states) first lines ≡ None
+      pub updates : first_place (breaks_updates text controlled_texts) first lines ≡ None
       pub held : (line : ℕ) → Held (nodes_uses text line lines)
 
     pub nodes_part : (first : ℕ) (xs : List NodeTree) → first + length xs ≤ 65536 → list_all (node_is_writable names) xs ≡ true →
@@ -468,7 +476,9 @@ module _ (names : List NameEntry) (distinct : AreDistinct names) (readable : Lis
           lines = [];
           numbered_are = refl;
           within = refl;
-          keep = λ i n is. absurd (cc);
+          order = refl;
+          go = refl;
+          updates = refl;
           held = λ line. tt;
         }) (λ u. refl)
     nodes_part first (x ∷ xs) few writable keep =
@@ -484,22 +494,15 @@ module _ (names : List NameEntry) (distinct : AreDistinct names) (readable : Lis
           numbered_are = all_there_next (numbered_node names text) head.line rest.lines x xs head.numbered_is rest.numbered_are;
           within = and_from (line_is_within (node_tree_line first head.line)) (list_all line_is_within (node_lines (suc first) rest.lines))
               head.within rest.within;
-          keep = at_place head.line rest.lines head.keeps rest.keep;
+          order = next_place breaks_order first head.line rest.lines head.order rest.order;
+          go = next_place (goes_nowhere states) first head.line rest.lines head.go rest.go;
+          updates = next_place (breaks_updates text controlled_texts) first head.line rest.lines head.updates rest.updates;
           held = λ line. each_joined (HeldUse names readable) (node_uses text line head.line) (nodes_uses text (suc line) rest.lines)
               (head.held line) (rest.held (suc line));
         }) (λ y. refl)
       where
         next : (i : ℕ) → first + suc i ≡ suc first + i
         next i = omega arith
-
-        at_place : (n : NodeLine) (ns : List NodeLine) → KeepsNode first n →
-            ((i : ℕ) (m : NodeLine) → slice_get ns i ≡ Some m → KeepsNode (suc first + i) m) →
-            (i : ℕ) (m : NodeLine) → slice_get (n ∷ ns) i ≡ Some m → KeepsNode (first + i) m
-        at_place n ns here later zero m is =
-            let same : n ≡ m = cc in
-            let place : first ≡ first + 0 = omega arith in
-            subst (λ k. KeepsNode k m) place (subst (KeepsNode first) same here)
-        at_place n ns here later (suc i) m is = subst (λ k. KeepsNode k m) (sym (next i)) (later i m is)
 
   -- ---- declarations
 
@@ -527,7 +530,7 @@ module _ (names : List NameEntry) (distinct : AreDistinct names) (readable : Lis
         numbered_is = number_at names distinct readable text s Signal 0 parts.0 x.0.1;
         holds = record {
           within = refl;
-          held = λ n. (applied_held names distinct readable text n Signal s 0 parts.0 parts.1 x.0.1, tt);
+          held = λ n. (applied_held names distinct readable text n Signal s 0 parts.0 x.0.1, tt);
         };
       }) (λ x. pieces x.0.1.at)))) refl
       (λ l. flat_map ended_pieces (map make l.lines)) (λ l. l) (λ l. flat_map_of_map ended_pieces make l.lines)

@@ -1,10 +1,10 @@
 -- Terms and tests of a program stand in the text that spells them, and each name that they use is one of the program's names.
-use Rattle.std.proofs.Common.{◌≡◌, ℕ, ◌+◌, ◌==◌, Bool, true, false, ◌&&◌, ◌||◌, cond, List, [], ◌∷◌, ◌++◌, refl, ap, sym, subst, ◌∙◌}
+use Rattle.std.proofs.Common.{◌≡◌, ℕ, ◌+◌, ◌==◌, Bool, true, false, ◌&&◌, ◌||◌, cond, List, [], ◌∷◌, ◌++◌, refl, ap, sym, subst, ◌∙◌, inl, inr, if◌then◌else◌}
 use Rattle.std.specs.Prelude.{Option, Some, None, option_map, option_and_then, max, codes, slice_get, IsTrue}
 use Rattle.std.specs.List.{AllByRecursion}
 use Rattle.std.specs.Option.{option_map_or}
 use Rattle.std.specs.Str.{bytes_eq}
-use Rattle.std.proofs.lemmas.Bool.{and_parts, eqb-true}
+use Rattle.std.proofs.lemmas.Bool.{and_parts, or_cases, eqb-true}
 use Rattle.std.proofs.lemmas.Option.{none-some}
 use Rattle.sequence.proofs.Bytes.{same_bytes}
 use Rattle.sequence.proofs.Each.{each_joined}
@@ -32,62 +32,42 @@ use Rattle.flow_program.specs.internal.Numbering.{numbered, numbered_term, numbe
 use Rattle.flow_program.proofs.ResolvedLines.{place_at}
 use Rattle.flow_program.proofs.WrittenIsRead.Runs.{Part, nothing, exactly, beside, made, name_at, a_word, a_name, bytes_at}
 
-left_holds : (a : Bool) → (a || false) ≡ true → a ≡ true
-left_holds true h = refl
-left_holds false h = h
-
 -- ---- names
 
 kinds_same : (a b : NameKind) → same_kind a b ≡ true → a ≡ b
 kinds_same Signal Signal h = refl
-kinds_same Signal Function h = absurd (cc)
-kinds_same Signal Predicate h = absurd (cc)
-kinds_same Function Signal h = absurd (cc)
 kinds_same Function Function h = refl
-kinds_same Function Predicate h = absurd (cc)
-kinds_same Predicate Signal h = absurd (cc)
-kinds_same Predicate Function h = absurd (cc)
 kinds_same Predicate Predicate h = refl
+kinds_same _ _ h = absurd (cc)
 
 module _ (names : List NameEntry) where
-  -- what stands at the number of a name
-  pub record Entry (id : ℕ) (kind : NameKind) (arity : ℕ) : Type 0 where
-    pub entry : NameEntry
-    pub there : slice_get names id ≡ Some entry
-    pub text : name_text names id ≡ entry.text
-    pub kind_is : entry.kind ≡ kind
-    pub arity_is : entry.arity ≡ arity
-
-  pub entry_of : (id : ℕ) (kind : NameKind) (arity : ℕ) → is_name names id kind arity ≡ true → Entry id kind arity
-  entry_of id kind arity h =
-      let found = some_passes (slice_get names id) (λ n. same_kind n.kind kind && (n.arity == arity)) h in
+  -- what stands at the number of a name with these bytes
+  entry_is : (id : ℕ) (kind : NameKind) (arity : ℕ) (bytes : List ℕ) → is_name names id kind arity ≡ true → bytes ≡ name_text names id →
+      slice_get names id ≡ Some (record { text = bytes; kind = kind; arity = arity })
+  entry_is id kind arity bytes fits is =
+      let found = some_passes (slice_get names id) (λ n. same_kind n.kind kind && (n.arity == arity)) fits in
       let parts = and_parts (same_kind found.0.kind kind) (found.0.arity == arity) found.2 in
-      record {
-        entry = found.0;
-        there = found.1;
-        text = ap (λ o. option_map_or (λ n. n.text) o []) found.1;
-        kind_is = kinds_same found.0.kind kind parts.0;
-        arity_is = eqb-true found.0.arity arity parts.1;
-      }
+      found.1 ∙ (λ i. Some (record {
+        text = sym (is ∙ ap (λ o. option_map_or (λ n. n.text) o []) found.1) i;
+        kind = kinds_same found.0.kind kind parts.0 i;
+        arity = eqb-true found.0.arity arity parts.1 i;
+      }))
 
   pub usable_text : (id : ℕ) → is_usable_at names id ≡ true → is_usable (name_text names id) ≡ true
   usable_text id h =
       let found = some_passes (slice_get names id) (λ n. is_usable n.text) h in
       ap is_usable (ap (λ o. option_map_or (λ n. n.text) o []) found.1) ∙ found.2
 
-  -- a use is of a name of the program, and reads one of these signals
+  -- a name is one of these
+  abbrev pub InNames : NameEntry → Type 0
+  InNames n = (id : ℕ) × (slice_get names id ≡ Some n)
+
+  -- a use is of names of the program, and reads one of these signals
   pub record HeldUse (readable : List ℕ) (u : ProgramUse) : Type 0 where
     pub id : ℕ
     pub there : slice_get names id ≡ Some u.name
-    pub usable : is_usable u.name.text ≡ true
-    pub asked : IsTrue u.is_tested → (q : ℕ) × (slice_get names q ≡ Some question_entry)
+    pub asked : AllByRecursion InNames (if u.is_tested then question_entry ∷ [] else [])
     pub read : IsTrue u.is_read → is_among readable id ≡ true
-
-  -- the name of a use with these bytes
-  pub entry_is : (id : ℕ) (kind : NameKind) (arity : ℕ) (bytes : List ℕ) → (e : Entry id kind arity) → bytes ≡ name_text names id →
-      slice_get names id ≡ Some (record { text = bytes; kind = kind; arity = arity })
-  entry_is id kind arity bytes e is =
-      e.there ∙ (λ i. Some (record { text = sym (is ∙ e.text) i; kind = e.kind_is i; arity = e.arity_is i }))
 
   -- a name has the number of its place
   pub its_number : (distinct : AreDistinct names) (id : ℕ) (n : NameEntry) → slice_get names id ≡ Some n → number_of names n.text ≡ Some id
@@ -117,30 +97,20 @@ module _ (names : List NameEntry) where
       );
     }
 
-    -- it has its number
+    -- it is the name at this number, and has it
+    named_as : (id : ℕ) (kind : NameKind) (arity : ℕ) → is_name names id kind arity ≡ true → (n : NameAt id) →
+        slice_get names id ≡ Some (record { text = name_bytes text n.at; kind = kind; arity = arity })
+    named_as id kind arity fits n = entry_is id kind arity (name_bytes text n.at) fits n.bytes_are
+
     pub number_at : (id : ℕ) (kind : NameKind) (arity : ℕ) → is_name names id kind arity ≡ true → (n : NameAt id) →
         numbered names text n.at ≡ Some id
-    number_at id kind arity fits n =
-        let e = entry_of id kind arity fits in
-        ap (number_of names) (n.bytes_are ∙ e.text) ∙ its_number distinct id e.entry e.there
+    number_at id kind arity fits n = its_number distinct id _ (named_as id kind arity fits n)
 
     -- a use of it is held
-    held_as : (u : ProgramUse) (id : ℕ) (kind : NameKind) (arity : ℕ) (n : NameAt id) →
-        u.name ≡ record { text = name_bytes text n.at; kind = kind; arity = arity } → is_name names id kind arity ≡ true →
-        is_usable_at names id ≡ true → (IsTrue u.is_tested → (q : ℕ) × (slice_get names q ≡ Some question_entry)) →
-        (IsTrue u.is_read → is_among readable id ≡ true) → HeldUse readable u
-    held_as u id kind arity n is fits usable asked read = record {
-      id = id;
-      there = entry_is id kind arity (name_bytes text n.at) (entry_of id kind arity fits) n.bytes_are ∙ ap Some (sym is);
-      usable = ap (λ m. is_usable m.text) is ∙ ap is_usable n.bytes_are ∙ usable_text id usable;
-      asked = asked;
-      read = read;
-    }
-
-    pub applied_held : (line : ℕ) (kind : NameKind) (id arity : ℕ) → is_name names id kind arity ≡ true → is_usable_at names id ≡ true →
-        (n : NameAt id) → HeldUse readable (applied_use text line kind n.at arity)
-    applied_held line kind id arity fits usable n =
-        held_as (applied_use text line kind n.at arity) id kind arity n refl fits usable (λ h. absurd (cc)) (λ h. absurd (cc))
+    pub applied_held : (line : ℕ) (kind : NameKind) (id arity : ℕ) → is_name names id kind arity ≡ true → (n : NameAt id) →
+        HeldUse readable (applied_use text line kind n.at arity)
+    applied_held line kind id arity fits n =
+        record { id = id; there = named_as id kind arity fits n; asked = tt; read = λ h. absurd (cc) }
 
     -- ---- terms
 
@@ -222,7 +192,7 @@ module _ (names : List NameEntry) where
             deep = refl;
             shape = λ d. refl;
             argument = λ pieces. refl;
-            held = λ line. (held_as (read_use text line n.at) s Signal 0 n refl parts.0 parts.1 (λ h. absurd (cc)) (λ h. reads), tt);
+            held = λ line. (record { id = s; there = named_as s Signal 0 parts.0 n; asked = tt; read = λ h. reads }, tt);
           }) (λ n. refl)
       term_part (apply f ts) fits reads =
           let parts = and_parts (is_name names f Function (count_of_terms ts) && is_usable_at names f) (terms_fit names ts) fits in
@@ -236,7 +206,7 @@ module _ (names : List NameEntry) where
             argument = x.1.argument f x.0.at;
             held = λ line. (
               subst (λ n. HeldUse readable (applied_use text line Function x.0.at n)) (sym x.1.count)
-                  (applied_held line Function f (count_of_terms ts) name.0 name.1 x.0),
+                  (applied_held line Function f (count_of_terms ts) name.0 x.0),
               x.1.held line,
             );
           }) (λ x. refl)
@@ -295,7 +265,7 @@ module _ (names : List NameEntry) where
           deep = x.1.deep;
           held = λ line. (
             subst (λ n. HeldUse readable (applied_use text line Predicate x.0.at n)) (sym x.1.count)
-                (applied_held line Predicate q (count_of_terms ts) fits usable x.0),
+                (applied_held line Predicate q (count_of_terms ts) fits x.0),
             x.1.held line,
           );
         }) (λ x. refl)
@@ -309,9 +279,9 @@ module _ (names : List NameEntry) where
         let name = and_parts (is_name names s Signal 0) (is_usable_at names s) parts.0 in
         let read = and_parts (is_among readable s) true reads in
         let found = some_passes (slice_get names q) (λ n. bytes_eq n.text question) asks in
-        let e : Entry q Predicate 1 = entry_of q Predicate 1 fits in
         let text_is : name_text names q ≡ question =
         ap (λ o. option_map_or (λ n. n.text) o []) found.1 ∙ same_bytes found.0.text question found.2 in
+        let asked = entry_is q Predicate 1 question fits (sym text_is) in
         let arguments = more_terms (signal s) no_terms in
         made (name_part s name.1)
         (sym (ap (λ b. cond b (name_text names s) (application_text names (probe_with q arguments))) asks)) test_at (λ n. record {
@@ -319,44 +289,32 @@ module _ (names : List NameEntry) where
           numbered_is =
               ap (option_and_then (λ k. option_map (λ m. probe_with m (more_terms (signal k) no_terms)) (number_of names question)))
               (number_at s Signal 0 name.0 n)
-              ∙ ap (option_map (λ m. probe_with m arguments)) (ap (number_of names) (sym text_is ∙ e.text)
-              ∙ its_number distinct q e.entry e.there);
+              ∙ ap (option_map (λ m. probe_with m arguments)) (its_number distinct q question_entry asked);
           deep = refl;
-          held = λ line. (
-            held_as (tested_use text line n.at) s Signal 0 n refl name.0 name.1
-                (λ h. (q, entry_is q Predicate 1 question e (sym text_is))) (λ h. read.0),
-            tt,
-          );
+          held = λ line. (record { id = s; there = named_as s Signal 0 name.0 n; asked = ((q, asked), tt); read = λ h. read.0 }, tt);
         }) (λ n. refl)
-    signal_test q no_terms fits fit one reads asks = absurd (cc)
-    signal_test q (more_terms (apply f as') ts) fits fit one reads asks = absurd (cc)
-    signal_test q (more_terms (signal s) (more_terms t ts)) fits fit one reads asks = absurd (cc)
+    signal_test q _ fits fit one reads asks = absurd (cc)
 
-    question_unusable : (q : ℕ) → is_question names q ≡ true → is_usable_at names q ≡ false
-    question_unusable q asks =
-        let found = some_passes (slice_get names q) (λ n. bytes_eq n.text question) asks in
-        ap (λ o. option_map_or (λ n. is_usable n.text) o false) found.1 ∙ ap is_usable (same_bytes found.0.text question found.2)
+    -- a usable name is not `?`
+    other_than_question : (q : ℕ) → is_usable_at names q ≡ true → is_question names q ≡ false
+    other_than_question q usable = by (is_question names q) refl where
+      by : (b : Bool) → is_question names q ≡ b → is_question names q ≡ false
+      by false e = e
+      by true asks =
+          let found = some_passes (slice_get names q) (λ n. bytes_eq n.text question) asks in
+          let never : is_usable_at names q ≡ false =
+          ap (λ o. option_map_or (λ n. is_usable n.text) o false) found.1 ∙ ap is_usable (same_bytes found.0.text question found.2) in
+          absurd (cc)
 
     pub test_part : (p : ProbeTree) → probe_fits names p ≡ true → read_only readable p.arguments ≡ true →
         Part text (test_at {p = p}) (probe_text names p)
     test_part p fits reads =
         let q = p.predicate in
         let ts = p.arguments in
-        let parts = and_parts (is_name names q Predicate (count_of_terms ts) && terms_fit names ts)
-        (is_usable_at names q || (is_question names q && are_one_signal ts)) fits in
+        let parts = and_parts (is_name names q Predicate (count_of_terms ts) && terms_fit names ts) _ fits in
         let name = and_parts (is_name names q Predicate (count_of_terms ts)) (terms_fit names ts) parts.0 in
-        by (is_question names q) refl name.0 name.1 parts.1
-      where
-        by : (b : Bool) → is_question names p.predicate ≡ b → is_name names p.predicate Predicate (count_of_terms p.arguments) ≡ true →
-            terms_fit names p.arguments ≡ true →
-            (is_usable_at names p.predicate || (is_question names p.predicate && are_one_signal p.arguments)) ≡ true →
-            Part text (test_at {p = p}) (probe_text names p)
-        by true e fit rest one =
-            let either : (is_question names p.predicate && are_one_signal p.arguments) ≡ true =
-            sym (ap (λ b. b || (is_question names p.predicate && are_one_signal p.arguments)) (question_unusable p.predicate e)) ∙ one in
-            signal_test p.predicate p.arguments fit rest (and_parts (is_question names p.predicate)
-            (are_one_signal p.arguments) either).1 reads e
-        by false e fit rest one =
-            application_test p.predicate p.arguments fit rest
-            (left_holds (is_usable_at names p.predicate) (sym (ap (λ b. is_usable_at names p.predicate ||
-            (b && are_one_signal p.arguments)) e) ∙ one)) reads e
+        elim (or_cases (is_usable_at names q) (is_question names q && are_one_signal ts) parts.1) [
+          | inl usable ↦ application_test q ts name.0 name.1 usable reads (other_than_question q usable)
+          | inr asked ↦
+            (let both = and_parts (is_question names q) (are_one_signal ts) asked in signal_test q ts name.0 name.1 both.1 reads both.0)
+        ]
