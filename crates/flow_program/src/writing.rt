@@ -194,8 +194,15 @@ pub fn put_updates(
     ensures { OnOk result
         (out.new.items ≡ out.old.items ++ updates_text names.now signals.now (map term_tree terms.now)) }
 {
-    for (signal, term) in signals.iter().zip(terms) {
+    let mut signals = signals;
+    let mut terms = terms;
+    while let [signal, more_signals @ ..] = signals {
+        let [term, more_terms @ ..] = terms else {
+            return Ok(());
+        };
         put_spaced_update(out, names, *signal, term)?;
+        signals = more_signals;
+        terms = more_terms;
     }
     Ok(())
 }
