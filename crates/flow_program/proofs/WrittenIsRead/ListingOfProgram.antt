@@ -57,9 +57,10 @@ use Rattle.flow_program.proofs.EquatedLines.{are_equated, test_of_equality, in_o
 use Rattle.flow_program.proofs.WrittenIsRead.ListingOfTerms.{its_number, InNames}
 use Rattle.flow_program.proofs.WrittenIsRead.Runs.{Run, Part, exactly, beside, made}
 use Rattle.flow_program.proofs.WrittenIsRead.ListingOfTerms.{HeldUse}
-use Rattle.flow_program.proofs.WrittenIsRead.ListingOfLines.{KeptWindow, kept_window, IsKept, all_within as all_lines_within, lines_held}
-use Rattle.flow_program.proofs.WrittenIsRead.ListingOfLines.{window_line_within, AllWindows, windows_part, KeptNode, ListingOfNodes, nodes_part}
-use Rattle.flow_program.proofs.WrittenIsRead.ListingOfLines.{declared_use, AllDeclared, declared_part}
+use Rattle.flow_program.proofs.WrittenIsRead.ListingOfLines.{KeptWindow, kept_window, all_windows, windows_part, KeptNode}
+use Rattle.flow_program.proofs.WrittenIsRead.ListingOfLines.{ListingOfNodes, nodes_part, all_declared, declared_part}
+use Rattle.flow_program.proofs.WrittenIsRead.ListingOfTerms.{PartOf}
+use Rattle.flow_program.proofs.UseLemmas.{declared_append}
 use Rattle.flow_program.proofs.WrittenIsRead.ListingOfLines.{states_part, states_within, states_numbered, none_place}
 use Rattle.flow_program.proofs.NumberLemmas.{Parts, parts_of, small_same, there_parts, there_at, numbered_texts}
 use Rattle.flow_program.proofs.ResolvedProgram.{map_both}
@@ -197,11 +198,11 @@ both_there f (x ∷ xs) ys as' bs is too =
     all_there_next f x (xs ++ ys) parts.0 (parts.1 ++ bs) parts.2 (both_there f xs ys parts.1 bs parts.3 too)
     ∙ ap (λ zs. Some (zs ++ bs)) parts.4
 
-declared_within : (make : Name → LineTree) → ((n : Name) → line_is_within (make n) ≡ true) → (ats : List Name) →
-    list_all line_is_within (map make ats) ≡ true
-declared_within make is [] = refl
-declared_within make is (at ∷ ats) = and_from (line_is_within (make at)) (list_all line_is_within (map make ats)) (is at)
-    (declared_within make is ats)
+-- what is made of eight lists one after another
+eight_joined : {X Y : Type 0} (f : X → List Y) (a b c d e g h k : List X) →
+    ((((((flat_map f a ++ flat_map f b) ++ flat_map f c) ++ flat_map f d) ++ flat_map f e) ++ flat_map f g) ++ flat_map f h) ++ flat_map f k
+    ≡ flat_map f (a ++ (b ++ (c ++ (d ++ (e ++ (g ++ (h ++ k)))))))
+eight_joined f a b c d e g h k = simp (flat_map-append, append_assoc)
 
 -- the listing of a text that spells a program
 pub record ListingOfProgram (text : List ℕ) (names : List NameEntry) (p : ProgramTree) : Type 0 where
@@ -243,20 +244,23 @@ module _ (text : List ℕ) (names : List NameEntry) (distinct : AreDistinct name
       (fits.0 ∙ sym (length-append p.cells p.outputs), fits.1, fits.2)
 
   -- the lines of the program
+  abbrev Declared : (Name → LineTree) → List ℕ → Type 0
+  Declared make = PartOf names readable (all_declared names distinct readable text make)
+
   record Lines : Type 0 where
-    inputs : AllDeclared names distinct readable text p.inputs
-    cells : AllDeclared names distinct readable text p.cells
-    outputs : AllDeclared names distinct readable text p.outputs
-    windows : AllWindows names distinct readable text p.windows
+    inputs : Declared input p.inputs
+    cells : Declared cell p.cells
+    outputs : Declared output p.outputs
+    windows : PartOf names readable (all_windows names distinct readable text) p.windows
     nodes : ListingOfNodes names distinct readable text (p.cells ++ p.outputs) controlled_fit (length p.states) h.is_writable.few_states 0
         p.nodes
 
   abbrev listing_at : Lines → ListingTree
   listing_at l = record {
-    inputs = l.inputs.lines;
-    cells = l.cells.lines;
-    outputs = l.outputs.lines;
-    windows = l.windows.lines;
+    inputs = l.inputs.line;
+    cells = l.cells.line;
+    outputs = l.outputs.line;
+    windows = l.windows.line;
     nodes = l.nodes.lines;
     states = p.states;
   }
@@ -265,8 +269,8 @@ module _ (text : List ℕ) (names : List NameEntry) (distinct : AreDistinct name
   lines_part =
       let declared = declared_part names distinct readable text in
       made (beside (beside (beside (beside (beside (beside (beside (beside (exactly (codes "tslprogram 1")) (exactly (codes "\n")))
-      (declared (codes "input ") input (λ n. refl) p.inputs inputs_fit)) (declared (codes "cell ") cell (λ n. refl) p.cells cells_fit))
-      (declared (codes "output ") output (λ n. refl) p.outputs outputs_fit))
+      (declared (codes "input ") input (λ n. refl) (λ n. refl) p.inputs inputs_fit)) (declared (codes "cell ") cell (λ n. refl) (λ n. refl) p.cells cells_fit))
+      (declared (codes "output ") output (λ n. refl) (λ n. refl) p.outputs outputs_fit))
       (windows_part names distinct readable text p.cells p.windows h.is_writable.windows h.is_program.windows_fit))
       (nodes_part names distinct readable text (p.cells ++ p.outputs) controlled_fit (length p.states) h.is_writable.few_states 0 p.nodes
       (omega (arith, h.is_writable.few_nodes)) h.is_writable.nodes kept_nodes)) (states_part 0 p.states))
@@ -277,7 +281,9 @@ module _ (text : List ℕ) (names : List NameEntry) (distinct : AreDistinct name
         outputs = x.0.0.0.0.1;
         windows = x.0.0.0.1;
         nodes = x.0.0.1;
-      }) (λ x. simp (flat_map-append, append_assoc))
+      }) (λ x. eight_joined ended_pieces (head_line ∷ []) (map input x.0.0.0.0.0.0.1.line) (map cell x.0.0.0.0.0.1.line)
+      (map output x.0.0.0.0.1.line) (map window_tree_line x.0.0.0.1.line) (node_lines 0 x.0.0.1.lines) (state_lines 0 p.states)
+      (end_line ∷ []))
 
   found : (l : Lines) × Run (flat_map ended_pieces (listing_lines (listing_at l))) [] (program_text names p)
   found = lines_part.runs [] ([], h.text ∙ sym (append-nil (program_text names p)))
@@ -288,23 +294,23 @@ module _ (text : List ℕ) (names : List NameEntry) (distinct : AreDistinct name
   abbrev listing : ListingTree
   listing = listing_at lines
 
-  windows_count : length lines.windows.lines ≡ length p.windows
+  windows_count : length lines.windows.line ≡ length p.windows
   windows_count =
-      sym (length-all_there (map (numbered_window names text) lines.windows.lines) p.windows lines.windows.numbered_are
-      ∙ length-map lines.windows.lines (numbered_window names text))
+      sym (length-all_there (map (numbered_window names text) lines.windows.line) p.windows lines.windows.numbered_is
+      ∙ length-map lines.windows.line (numbered_window names text))
 
   nodes_count : length lines.nodes.lines ≡ length p.nodes
   nodes_count =
       sym (length-all_there (map (numbered_node names text) lines.nodes.lines) p.nodes lines.nodes.numbered_are
       ∙ length-map lines.nodes.lines (numbered_node names text))
 
-  readable_numbers : all_there (map (numbered names text) (lines.inputs.lines ++ lines.cells.lines)) ≡ Some readable
+  readable_numbers : all_there (map (numbered names text) (lines.inputs.line ++ lines.cells.line)) ≡ Some readable
   readable_numbers =
-      both_there (numbered names text) lines.inputs.lines lines.cells.lines p.inputs p.cells lines.inputs.numbered_are lines.cells.numbered_are
+      both_there (numbered names text) lines.inputs.line lines.cells.line p.inputs p.cells lines.inputs.numbered_is lines.cells.numbered_is
 
   controlled_are : map (name_text names) (p.cells ++ p.outputs) ≡ controlled_of text listing
-  controlled_are = sym (numbered_texts names text (lines.cells.lines ++ lines.outputs.lines) (p.cells ++ p.outputs) (both_there
-      (numbered names text) lines.cells.lines lines.outputs.lines p.cells p.outputs lines.cells.numbered_are lines.outputs.numbered_are))
+  controlled_are = sym (numbered_texts names text (lines.cells.line ++ lines.outputs.line) (p.cells ++ p.outputs) (both_there
+      (numbered names text) lines.cells.line lines.outputs.line p.cells p.outputs lines.cells.numbered_is lines.outputs.numbered_is))
 
   starts_below : (i m : ℕ) → slice_get p.states i ≡ Some m → m < length p.nodes
   starts_below i m is = h.is_program.states_fit.1 i m is
@@ -315,19 +321,22 @@ module _ (text : List ℕ) (names : List NameEntry) (distinct : AreDistinct name
   held : AllByRecursion (HeldUse names readable) (uses_of text listing)
   held =
       let joined = each_joined (HeldUse names readable) in
-      let declared_held = each_joined (IsKept names distinct readable text (λ at. true) (declared_use names distinct readable text)) in
-      joined (declared_uses text first_declaration (declared listing) ++ windows_uses text (first_window listing) lines.windows.lines)
+      let cells_at = first_declaration + length lines.inputs.line in
+      let outputs_at = first_declaration + length (lines.inputs.line ++ lines.cells.line) in
+      let declared_held = λ (line : ℕ) (xs ys : List Name) (first : AllByRecursion (HeldUse names readable) (declared_uses text line xs))
+      (second : AllByRecursion (HeldUse names readable) (declared_uses text (line + length xs) ys)).
+      subst (AllByRecursion (HeldUse names readable)) (sym (declared_append text line xs ys)) (joined (declared_uses text line xs)
+      (declared_uses text (line + length xs) ys) first second) in
+      joined (declared_uses text first_declaration (declared listing) ++ windows_uses text (first_window listing) lines.windows.line)
       (nodes_uses text (first_node listing) lines.nodes.lines)
-      (joined (declared_uses text first_declaration (declared listing)) (windows_uses text (first_window listing) lines.windows.lines)
-      (lines_held names distinct readable text (λ at. true) (declared_use names distinct readable text) first_declaration (declared listing)
-      (declared_held (lines.inputs.lines ++ lines.cells.lines) lines.outputs.lines (declared_held lines.inputs.lines lines.cells.lines
-      lines.inputs.each lines.cells.each) lines.outputs.each))
-      (lines_held names distinct readable text (window_line_within names distinct readable text) (window_uses text) (first_window listing)
-      lines.windows.lines lines.windows.each))
+      (joined (declared_uses text first_declaration (declared listing)) (windows_uses text (first_window listing) lines.windows.line)
+      (declared_held first_declaration (lines.inputs.line ++ lines.cells.line) lines.outputs.line (declared_held first_declaration
+      lines.inputs.line lines.cells.line (lines.inputs.held first_declaration) (lines.cells.held cells_at)) (lines.outputs.held outputs_at))
+      (lines.windows.held (first_window listing)))
       (lines.nodes.held (first_node listing))
 
   readable_are : readable_of text listing ≡ map (name_text names) readable
-  readable_are = numbered_texts names text (lines.inputs.lines ++ lines.cells.lines) readable readable_numbers
+  readable_are = numbered_texts names text (lines.inputs.line ++ lines.cells.line) readable readable_numbers
 
   -- a signal that is read is declared
   known : (u : ProgramUse) → HeldUse names readable u → is_unknown (readable_of text listing) u ≡ false
@@ -358,10 +367,10 @@ module _ (text : List ℕ) (names : List NameEntry) (distinct : AreDistinct name
       let starts : first_place (is_nowhere (length lines.nodes.lines)) 0 p.states ≡ None =
       none_place (is_nowhere (length lines.nodes.lines)) p.states (λ k i m is.
       ap not (lt-ltb m (length lines.nodes.lines) (subst (λ n. m < n) (sym nodes_count) (starts_below i m is)))) 0 in
-      let windows : first_place (breaks_window text (cell_texts text listing)) 0 lines.windows.lines ≡ None =
-      none_place (breaks_window text (cell_texts text listing)) lines.windows.lines (λ k i w is.
-      windows_keep names readable text lines.cells.lines p.cells lines.cells.numbered_are
-      (second_once p.inputs p.cells p.outputs h.is_program.signals_distinct) p.windows lines.windows.lines lines.windows.numbered_are
+      let windows : first_place (breaks_window text (cell_texts text listing)) 0 lines.windows.line ≡ None =
+      none_place (breaks_window text (cell_texts text listing)) lines.windows.line (λ k i w is.
+      windows_keep names readable text lines.cells.line p.cells lines.cells.numbered_is
+      (second_once p.inputs p.cells p.outputs h.is_program.signals_distinct) p.windows lines.windows.line lines.windows.numbered_is
       h.is_writable.equalities h.is_program.windows_fit i w is k) 0 in
       λ i. first_there (told ProgramError.Order (first_node listing) (lines.nodes.order i)
       ∷ told ProgramError.Target (first_node listing) (lines.nodes.go i) ∷ told ProgramError.Target (first_state listing) (starts i)
@@ -377,7 +386,7 @@ module _ (text : List ℕ) (names : List NameEntry) (distinct : AreDistinct name
 
   no_limit_fault : limit_fault listing ≡ None
   no_limit_fault =
-      let windows = le-ltb most_windows (length lines.windows.lines) (subst (λ k. k ≤ most_windows) (sym windows_count) h.is_writable.few_windows) in
+      let windows = le-ltb most_windows (length lines.windows.line) (subst (λ k. k ≤ most_windows) (sym windows_count) h.is_writable.few_windows) in
       let nodes = le-ltb most_nodes (length lines.nodes.lines) (subst (λ k. k ≤ most_nodes) (sym nodes_count) h.is_writable.few_nodes) in
       let states = le-ltb most_states (length p.states) h.is_writable.few_states in
       λ i. first_there (cond (windows i) (Some ProgramError.Windows) None ∷ cond (nodes i) (Some ProgramError.Nodes) None
@@ -392,26 +401,25 @@ module _ (text : List ℕ) (names : List NameEntry) (distinct : AreDistinct name
         (found.1.stands []);
     within = simp (
       list_all-append,
-      declared_within input (λ n. refl) lines.inputs.lines,
-      declared_within cell (λ n. refl) lines.cells.lines,
-      declared_within output (λ n. refl) lines.outputs.lines,
-      list_all-map line_is_within window_tree_line lines.windows.lines ∙ all_lines_within names distinct readable text
-          (window_line_within names distinct readable text) (window_uses text) lines.windows.lines lines.windows.each,
+      lines.inputs.within,
+      lines.cells.within,
+      lines.outputs.within,
+      lines.windows.within,
       lines.nodes.within,
       states_within 0 p.states (omega (arith, h.is_writable.few_states)) starts_small,
     );
     once = declared_apart names text (declared listing) ((p.inputs ++ p.cells) ++ p.outputs)
-        (both_there (numbered names text) (lines.inputs.lines ++ lines.cells.lines) lines.outputs.lines (p.inputs ++ p.cells) p.outputs
-        readable_numbers lines.outputs.numbered_are) h.is_program.signals_distinct;
+        (both_there (numbered names text) (lines.inputs.line ++ lines.cells.line) lines.outputs.line (p.inputs ++ p.cells) p.outputs
+        readable_numbers lines.outputs.numbered_is) h.is_program.signals_distinct;
     has_node = (let first = slice_get_some p.states 0 h.is_program.states_fit.0 in
         let below = starts_below 0 first.0 first.1 in
         omega (arith, below, nodes_count));
     has_state = h.is_program.states_fit.0;
     numbers = record {
-      inputs = lines.inputs.numbered_are;
-      cells = lines.cells.numbered_are;
-      outputs = lines.outputs.numbered_are;
-      windows = lines.windows.numbered_are;
+      inputs = lines.inputs.numbered_is;
+      cells = lines.cells.numbered_is;
+      outputs = lines.outputs.numbered_is;
+      windows = lines.windows.numbered_is;
       nodes = lines.nodes.numbered_are;
       states = states_numbered p.states starts_small;
     };

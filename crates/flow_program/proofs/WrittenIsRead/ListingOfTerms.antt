@@ -23,6 +23,11 @@ use Rattle.term_text.specs.TermText.{name_text, argument_text, applied_text, ter
 use Rattle.term_text.specs.TermText.{probe_text}
 use Rattle.sequence.proofs.Options.{some_passes}
 use Rattle.program_listing.specs.declared.listing.Name.{Name as Place}
+use Rattle.program_tree.specs.Writable.{probe_is_writable}
+use Rattle.tsl_terms.specs.WellFormed.{deepest}
+use Rattle.std.specs.Prelude.{nat_le}
+use Rattle.std.proofs.Common.{rules}
+use Rattle.program_listing.specs.LineText.{is_shallow}
 use Rattle.program_listing.specs.LineText.{Piece, word, named, argument_pieces, applied_pieces, surface_pieces, surfaces_pieces}
 use Rattle.program_listing.specs.Listing.{SurfaceTermTree, bare, applied, SurfaceTermTrees, no_surfaces, more_surfaces, count_of_surfaces, name_bytes}
 use Rattle.program_listing.specs.Listing.{bracketed_surface, surface_brackets, surfaces_brackets}
@@ -31,6 +36,13 @@ use Rattle.flow_program.specs.Uses.{question_entry}
 use Rattle.flow_program.specs.internal.Numbering.{numbered, numbered_term, numbered_terms, numbered_test, probe_with}
 use Rattle.flow_program.proofs.ResolvedLines.{place_at}
 use Rattle.flow_program.proofs.WrittenIsRead.Runs.{Part, nothing, exactly, beside, made, name_at, a_word, a_name, bytes_at}
+
+-- A kind of parts of lines: their numbers, their pieces, whether they keep the limits, and their uses on a line.
+pub record Kind (X Y : Type 0) : Type 0 where
+  pub numbered_as : X → Option Y
+  pub pieces : X → List Piece
+  pub is_within : X → Bool
+  pub uses : ℕ → X → List ProgramUse
 
 -- ---- names
 
@@ -69,6 +81,13 @@ module _ (names : List NameEntry) where
     pub asked : AllByRecursion InNames (if u.is_tested then question_entry ∷ [] else [])
     pub read : IsTrue u.is_read → is_among readable id ≡ true
 
+  -- a part with these numbers that keeps the limits, and whose uses are held
+  pub record PartOf (readable : List ℕ) {X Y : Type 0} (k : Kind X Y) (y : Y) : Type 0 where
+    pub line : X
+    pub numbered_is : k.numbered_as line ≡ Some y
+    pub within : k.is_within line ≡ true
+    pub held : (n : ℕ) → AllByRecursion (HeldUse readable) (k.uses n line)
+
   -- a name has the number of its place
   pub its_number : (distinct : AreDistinct names) (id : ℕ) (n : NameEntry) → slice_get names id ≡ Some n → number_of names n.text ≡ Some id
   its_number distinct id n there = by (number_of names n.text) refl where
@@ -81,6 +100,10 @@ module _ (names : List NameEntry) where
         ap Some (distinct i id other.0 n other.1 there other.2)
 
   module _ (distinct : AreDistinct names) (readable : List ℕ) (text : List ℕ) where
+    -- these bytes spell a part with these numbers
+    abbrev pub Reads : {X Y : Type 0} → Kind X Y → Y → List ℕ → Type 0
+    Reads k y bytes = Part text (λ (l : PartOf readable k y). k.pieces l.line) bytes
+
     -- a name that stands in the text as that of a number
     pub record NameAt (id : ℕ) : Type 0 where
       pub at : Place
@@ -242,27 +265,21 @@ module _ (names : List NameEntry) where
 
     -- ---- tests
 
-    pub record ListingOfTest (p : ProbeTree) : Type 0 where
-      pub surface : SurfaceTermTree
-      pub numbered_is : numbered_test names text surface ≡ Some p
-      pub deep : surface_brackets surface ≡ brackets_of_arguments p.arguments
-      pub held : (line : ℕ) → AllByRecursion (HeldUse readable) (test_uses text line surface)
-
-    abbrev pub test_at : {p : ProbeTree} → ListingOfTest p → List Piece
-    test_at l = surface_pieces l.surface
+    abbrev pub tests : Kind SurfaceTermTree ProbeTree
+    tests = record { numbered_as = numbered_test names text; pieces = surface_pieces; is_within = is_shallow; uses = test_uses text }
 
     -- a predicate with its arguments
     application_test : (q : ℕ) (ts : TermTrees) → is_name names q Predicate (count_of_terms ts) ≡ true → terms_fit names ts ≡ true →
-        is_usable_at names q ≡ true → read_only readable ts ≡ true → is_question names q ≡ false →
-        Part text (test_at {p = probe_with q ts}) (probe_text names (probe_with q ts))
-    application_test q ts fits fit usable reads other =
+        is_usable_at names q ≡ true → nat_le (brackets_of_arguments ts) deepest ≡ true → read_only readable ts ≡ true →
+        is_question names q ≡ false → Reads tests (probe_with q ts) (probe_text names (probe_with q ts))
+    application_test q ts fits fit usable flat reads other =
         let probe = probe_with q ts in
         made (application_part q ts usable (terms_part ts fit reads))
-        (sym (ap (λ b. cond b (question_text names probe ts) (application_text names probe)) other)) test_at (λ x. record {
-          surface = applied x.0.at x.1.surfaces;
+        (sym (ap (λ b. cond b (question_text names probe ts) (application_text names probe)) other)) (λ l. surface_pieces l.line) (λ x. record {
+          line = applied x.0.at x.1.surfaces;
           numbered_is = ap (option_and_then (λ n. option_map (probe_with n) (numbered_terms names text x.1.surfaces)))
               (number_at q Predicate (count_of_terms ts) fits x.0) ∙ ap (option_map (probe_with q)) x.1.numbered_are;
-          deep = x.1.deep;
+          within = ap (λ n. nat_le n deepest) x.1.deep ∙ flat;
           held = λ line. (
             subst (λ n. HeldUse readable (applied_use text line Predicate x.0.at n)) (sym x.1.count)
                 (applied_held line Predicate q (count_of_terms ts) fits x.0),
@@ -273,7 +290,7 @@ module _ (names : List NameEntry) where
     -- the name of a Boolean signal
     signal_test : (q : ℕ) (ts : TermTrees) → is_name names q Predicate (count_of_terms ts) ≡ true → terms_fit names ts ≡ true →
         are_one_signal ts ≡ true → read_only readable ts ≡ true → is_question names q ≡ true →
-        Part text (test_at {p = probe_with q ts}) (probe_text names (probe_with q ts))
+        Reads tests (probe_with q ts) (probe_text names (probe_with q ts))
     signal_test q (more_terms (signal s) no_terms) fits fit one reads asks =
         let parts = and_parts (term_fits names (signal s)) true fit in
         let name = and_parts (is_name names s Signal 0) (is_usable_at names s) parts.0 in
@@ -284,13 +301,13 @@ module _ (names : List NameEntry) where
         let asked = entry_is q Predicate 1 question fits (sym text_is) in
         let arguments = more_terms (signal s) no_terms in
         made (name_part s name.1)
-        (sym (ap (λ b. cond b (name_text names s) (application_text names (probe_with q arguments))) asks)) test_at (λ n. record {
-          surface = bare n.at;
+        (sym (ap (λ b. cond b (name_text names s) (application_text names (probe_with q arguments))) asks)) (λ l. surface_pieces l.line) (λ n. record {
+          line = bare n.at;
           numbered_is =
               ap (option_and_then (λ k. option_map (λ m. probe_with m (more_terms (signal k) no_terms)) (number_of names question)))
               (number_at s Signal 0 name.0 n)
               ∙ ap (option_map (λ m. probe_with m arguments)) (its_number distinct q question_entry asked);
-          deep = refl;
+          within = refl;
           held = λ line. (record { id = s; there = named_as s Signal 0 name.0 n; asked = ((q, asked), tt); read = λ h. read.0 }, tt);
         }) (λ n. refl)
     signal_test q _ fits fit one reads asks = absurd (cc)
@@ -306,15 +323,15 @@ module _ (names : List NameEntry) where
           ap (λ o. option_map_or (λ n. is_usable n.text) o false) found.1 ∙ ap is_usable (same_bytes found.0.text question found.2) in
           absurd (cc)
 
-    pub test_part : (p : ProbeTree) → probe_fits names p ≡ true → read_only readable p.arguments ≡ true →
-        Part text (test_at {p = p}) (probe_text names p)
-    test_part p fits reads =
+    pub test_part : (p : ProbeTree) → probe_is_writable names p ≡ true → read_only readable p.arguments ≡ true →
+        Reads tests p (probe_text names p)
+    test_part p writable reads =
         let q = p.predicate in
         let ts = p.arguments in
-        let parts = and_parts (is_name names q Predicate (count_of_terms ts) && terms_fit names ts) _ fits in
+        let both = and_parts (probe_fits names p) (nat_le (brackets_of_arguments ts) deepest) writable in
+        let parts = and_parts (is_name names q Predicate (count_of_terms ts) && terms_fit names ts) _ both.0 in
         let name = and_parts (is_name names q Predicate (count_of_terms ts)) (terms_fit names ts) parts.0 in
         elim (or_cases (is_usable_at names q) (is_question names q && are_one_signal ts) parts.1) [
-          | inl usable ↦ application_test q ts name.0 name.1 usable reads (other_than_question q usable)
-          | inr asked ↦
-            (let both = and_parts (is_question names q) (are_one_signal ts) asked in signal_test q ts name.0 name.1 both.1 reads both.0)
+          | inl usable ↦ application_test q ts name.0 name.1 usable both.1 reads (other_than_question q usable)
+          | inr asked ↦ signal_test q ts name.0 name.1 (search rules) reads (search rules)
         ]

@@ -98,35 +98,3 @@ pub made : {text : List ℕ} {X Y : Type 0} {p : X → List Piece} {a b : List �
 made {text = text} {a = a} part spelled q f same = subst (Part text q) spelled (record {
   runs = λ front occurs. let x = part.runs front occurs in (f x.0, subst (λ ps. Run ps front a) (same x.0) x.1);
 })
-
--- ---- lists of parts
-
-module _ {X Y : Type 0} (numbered_as : X → Option Y) (Holds : X → Type 0) where
-  -- what has a number as this, and keeps so much
-  pub record ListingOfOne (y : Y) : Type 0 where
-    pub line : X
-    pub numbered_is : numbered_as line ≡ Some y
-    pub holds : Holds line
-
-  pub record ListingOfAll (ys : List Y) : Type 0 where
-    pub lines : List X
-    pub numbered_are : all_there (map numbered_as lines) ≡ Some ys
-    pub each : AllByRecursion Holds lines
-
-  -- parts one after another
-  pub all_part : {text : List ℕ} (pieces : X → List Piece) (spelled : Y → List ℕ) (ys : List Y) →
-      AllByRecursion (λ y. Part text (λ (l : ListingOfOne y). pieces l.line) (spelled y)) ys →
-      Part text (λ (l : ListingOfAll ys). flat_map pieces l.lines) (flat_map spelled ys)
-  all_part pieces spelled [] each =
-      made nothing refl (λ l. flat_map pieces l.lines) (λ u. record { lines = []; numbered_are = refl; each = tt }) (λ u. refl)
-  all_part pieces spelled (y ∷ ys) each =
-      made (beside each.0 (all_part pieces spelled ys each.1)) refl (λ l. flat_map pieces l.lines) (λ x. record {
-        lines = x.0.line ∷ x.1.lines;
-        numbered_are = all_there_next numbered_as x.0.line x.1.lines y ys x.0.numbered_is x.1.numbered_are;
-        each = (x.0.holds, x.1.each);
-      }) (λ x. refl)
-
--- what is made of the images
-pub flat_map_of_map : {X Y Z : Type 0} (f : Y → List Z) (g : X → Y) (xs : List X) → flat_map (λ x. f (g x)) xs ≡ flat_map f (map g xs)
-flat_map_of_map f g [] = refl
-flat_map_of_map f g (x ∷ xs) = λ i. f (g x) ++ flat_map_of_map f g xs i
