@@ -126,9 +126,9 @@ module _ (names : List NameEntry) (distinct : AreDistinct names) (readable : Lis
 
   many_read : {X Y : Type 0} (k : Kind X Y) (spelled : Y → List ℕ) (ys : List Y) → AllByRecursion (λ y. ReadAs k y (spelled y)) ys →
       ReadAs (many k) ys (flat_map spelled ys)
-  many_read k spelled [] each = made nothing refl (λ l. flat_map k.pieces l.line)
+  many_read k spelled [] each = made nothing refl
       (λ u. record { line = []; numbered_is = refl; within = refl; held = λ n. tt }) (λ u. refl)
-  many_read k spelled (y ∷ ys) each = made (beside each.0 (many_read k spelled ys each.1)) refl (λ l. flat_map k.pieces l.line) (λ x. record {
+  many_read k spelled (y ∷ ys) each = made (beside each.0 (many_read k spelled ys each.1)) refl (λ x. record {
     line = x.0.line ∷ x.1.line;
     numbered_is = all_there_next k.numbered_as x.0.line x.1.line y ys x.0.numbered_is x.1.numbered_is;
     within = and_from (k.is_within x.0.line) (list_all k.is_within x.1.line) x.0.within x.1.within;
@@ -155,10 +155,9 @@ module _ (names : List NameEntry) (distinct : AreDistinct names) (readable : Lis
 
     lines_read : (spelled : Y → List ℕ) (ys : List Y) → AllByRecursion (λ y. ReadAs one_line y (spelled y)) ys →
         ReadAs all_lines ys (flat_map spelled ys)
-    lines_read spelled [] each = made nothing refl (λ l. flat_map ended_pieces (map make l.line))
+    lines_read spelled [] each = made nothing refl
         (λ u. record { line = []; numbered_is = refl; within = refl; held = λ n. tt }) (λ u. refl)
-    lines_read spelled (y ∷ ys) each = made (beside each.0 (lines_read spelled ys each.1)) refl
-        (λ l. flat_map ended_pieces (map make l.line)) (λ x. record {
+    lines_read spelled (y ∷ ys) each = made (beside each.0 (lines_read spelled ys each.1)) refl (λ x. record {
           line = x.0.line ∷ x.1.line;
           numbered_is = all_there_next numbered_as x.0.line x.1.line y ys x.0.numbered_is x.1.numbered_is;
           within = and_from (line_is_within (make x.0.line)) (list_all line_is_within (map make x.1.line)) x.0.within x.1.within;
@@ -182,8 +181,7 @@ module _ (names : List NameEntry) (distinct : AreDistinct names) (readable : Lis
       let signal = and_parts (is_name names s Signal 0) (is_usable_at names s) fits in
       let term = and_parts (term_fits names t) (nat_le (brackets t) deepest) writable in
       made (beside (beside (beside (beside (exactly (codes "[")) (name_part names distinct readable text s signal.1))
-      (exactly (codes " <- "))) (term_part names distinct readable text t term.0 reads)) (exactly (codes "]"))) refl
-      (λ u. update_pieces u.signal u.term) (λ x. let n = x.0.0.0.1 in let p = x.0.1 in record {
+      (exactly (codes " <- "))) (term_part names distinct readable text t term.0 reads)) (exactly (codes "]"))) refl (λ x. let n = x.0.0.0.1 in let p = x.0.1 in record {
         signal = n.at;
         term = p.surface;
         signal_is = number_at names distinct readable text s Signal 0 signal.0 n;
@@ -206,13 +204,13 @@ module _ (names : List NameEntry) (distinct : AreDistinct names) (readable : Lis
       list_all (term_is_writable names) ts ≡ true → list_all (reads_only readable) ts ≡ true →
       Part text (λ (l : ListingOfSet ids ts). flat_map set_pieces l.updates) (updates_text names ids ts)
   set_part [] [] count fits writable reads =
-      made nothing refl (λ l. flat_map set_pieces l.updates)
+      made nothing refl
       (λ u. record { updates = []; numbered_are = refl; texts_are = refl; flat = refl; held = λ line. tt }) (λ u. refl)
   set_part [] (t ∷ ts) count fits writable reads = absurd (omega (arith, count))
   set_part (s ∷ ids) [] count fits writable reads = absurd (omega (arith, count))
   set_part (s ∷ ids) (t ∷ ts) count fits writable reads =
       made (beside (beside (exactly (codes " ")) (update_part s t (search rules) (search rules) (search rules)))
-      (set_part ids ts (omega (arith, count)) (search rules) (search rules) (search rules))) refl (λ l. flat_map set_pieces l.updates) (λ x.
+      (set_part ids ts (omega (arith, count)) (search rules) (search rules) (search rules))) refl (λ x.
       let u = x.0.1 in let rest = x.1 in let line : UpdateLine = record { signal = u.signal; term = u.term } in record {
         updates = line ∷ rest.updates;
         numbered_are = all_there_next (λ v. numbered_term names text v.term) line rest.updates t ts u.numbered_is rest.numbered_are;
@@ -235,7 +233,7 @@ module _ (names : List NameEntry) (distinct : AreDistinct names) (readable : Lis
       ReadAs listed x (listed_text names x)
   listed_part x writable reads few =
       made (beside (beside (exactly (codes " when ")) (update_part x.signal x.term (search rules) (search rules) reads))
-      (beside (exactly (codes " at ")) (exactly (decimal x.offset)))) (simp append_assoc) (λ l. listed_pieces l.line) (λ y.
+      (beside (exactly (codes " at ")) (exactly (decimal x.offset)))) (simp append_assoc) (λ y.
       let u = y.0.1 in let line : ListedLine = record { signal = u.signal; term = u.term; offset = x.offset } in record {
         line = line;
         numbered_is = listed_numbered names text line x.signal x.term u.signal_is u.numbered_is (small_is x.offset (omega (arith, few)));
@@ -255,7 +253,7 @@ module _ (names : List NameEntry) (distinct : AreDistinct names) (readable : Lis
       Part text (λ (t : OneTest p). placed_pieces (placed_at step t)) (probe_text names p ++ codes " at " ++ decimal step)
   placed_part p step writable reads =
       made (beside (test_part names distinct readable text p writable reads) (beside (exactly (codes " at ")) (exactly (decimal step))))
-      (simp append_assoc) (λ t. placed_pieces (placed_at step t)) (λ x. x.0) (λ x. refl)
+      (simp append_assoc) (λ x. x.0) (λ x. refl)
 
   placed_within : (step : ℕ) → step ≤ 3 → {p : ProbeTree} (t : OneTest p) → placed_is_within (placed_at step t) ≡ true
   placed_within step few t = and_from (is_shallow t.line) (is_short step) t.within (short_is step (omega (arith, few)))
@@ -273,8 +271,7 @@ module _ (names : List NameEntry) (distinct : AreDistinct names) (readable : Lis
   equality_part : (x : EquatedTree) → probe_is_writable names x.probe ≡ true → read_only readable x.probe.arguments ≡ true → x.offset ≤ 3 →
       ReadAs equalities x (equated_text names x)
   equality_part x writable reads few =
-      made (beside (exactly (codes " when ")) (placed_part x.probe x.offset writable reads)) (simp append_assoc)
-      (λ l. equated_pieces l.line) (λ y. record {
+      made (beside (exactly (codes " when ")) (placed_part x.probe x.offset writable reads)) (simp append_assoc) (λ y. record {
         line = placed_at x.offset y.1;
         numbered_is = equated_numbered names text (placed_at x.offset y.1) x.probe y.1.numbered_is (small_is x.offset (omega (arith, few)));
         within = placed_within x.offset few y.1;
@@ -298,13 +295,12 @@ module _ (names : List NameEntry) (distinct : AreDistinct names) (readable : Lis
   left_part : (left : Option ProbeTree) (left_at : ℕ) → list_all (probe_is_writable names) (left_probes left) ≡ true →
       list_all (λ p. read_only readable p.arguments) (left_probes left) ≡ true → left_is_shaped left left_at ≡ true → left_at ≤ 3 →
       Part text (λ (l : ListingOfLeft left left_at). left_pieces l.part.line) (left_text names left left_at ++ codes " is ")
-  left_part None left_at writable reads shaped few = made (exactly (codes "true is ")) refl (λ l. left_pieces l.part.line) (λ u. record {
+  left_part None left_at writable reads shaped few = made (exactly (codes "true is ")) refl (λ u. record {
     part = record { line = None; numbered_is = refl; within = refl; held = λ n. tt };
     step_is = sym (eqb-true left_at 0 shaped);
   }) (λ u. refl)
   left_part (Some p) left_at writable reads shaped few =
-      made (beside (placed_part p left_at (and_parts _ true writable).0 (and_parts _ true reads).0) (exactly (codes " is "))) refl
-      (λ l. left_pieces l.part.line) (λ x. record {
+      made (beside (placed_part p left_at (and_parts _ true writable).0 (and_parts _ true reads).0) (exactly (codes " is "))) refl (λ x. record {
         part = record {
           line = Some (placed_at left_at x.0);
           numbered_is = ap (option_map Some) x.0.numbered_is;
@@ -342,8 +338,7 @@ module _ (names : List NameEntry) (distinct : AreDistinct names) (readable : Lis
       (sym (list_all-map (probe_is_writable names) (λ (y : EquatedTree). y.probe) x.equalities) ∙ write.0) k.equalities_read k.offsets in
       made (beside (beside (exactly (codes "window ")) (beside (left_part x.left x.left_at sides.0 k.left_reads k.left k.left_short)
       (beside (placed_part x.right x.length (and_parts _ true sides.1).0 k.right_reads) (beside (many_read listed (listed_text names) x.updates all_listed)
-      (many_read equalities (equated_text names) x.equalities all_equal))))) (exactly (codes "\n"))) (simp append_assoc)
-      (λ l. ended_pieces (window_tree_line l.line)) (λ y.
+      (many_read equalities (equated_text names) x.equalities all_equal))))) (exactly (codes "\n"))) (simp append_assoc) (λ y.
       let l = y.0.1.0 in let r = y.0.1.1.0 in let us = y.0.1.1.1.0 in let es = y.0.1.1.1.1 in
       let line : WindowLine =
       record { left = l.part.line; right = placed_at x.length r; updates = us.line; equalities = es.line } in
@@ -404,7 +399,7 @@ module _ (names : List NameEntry) (distinct : AreDistinct names) (readable : Lis
         made (beside (beside (exactly (codes "node ")) (beside (exactly (decimal number)) (beside (exactly (codes " if "))
         (beside (test_part names distinct readable text t writable keeps.2) (beside (exactly (codes " then ")) (beside (exactly (decimal a))
         (beside (exactly (codes " else ")) (exactly (decimal b))))))))) (exactly (codes "\n")))
-        (simp append_assoc) (λ l. ended_pieces (node_tree_line number l.line)) (λ x.
+        (simp append_assoc) (λ x.
         let p = x.0.1.1.1.0 in
         record {
           line = branch_line p.line a b;
@@ -422,8 +417,7 @@ module _ (names : List NameEntry) (distinct : AreDistinct names) (readable : Lis
         (beside (set_part controlled ts keeps.0 controlled_fit writable keeps.2) (beside (exactly (codes " go "))
         (exactly (decimal go)))))))
         (exactly (codes "\n")))
-        (simp append_assoc)
-        (λ l. ended_pieces (node_tree_line number l.line)) (λ x.
+        (simp append_assoc) (λ x.
         let p = x.0.1.1.1.0 in
         record {
           line = assignment_line p.updates go;
@@ -448,7 +442,7 @@ module _ (names : List NameEntry) (distinct : AreDistinct names) (readable : Lis
         ((i : ℕ) (x : NodeTree) → slice_get xs i ≡ Some x → KeptNode (first + i) x) →
         Part text (λ (l : ListingOfNodes first xs). flat_map ended_pieces (node_lines first l.lines)) (nodes_text names controlled first xs)
     nodes_part first [] few writable keep =
-        made nothing refl (λ l. flat_map ended_pieces (node_lines first l.lines)) (λ u. record {
+        made nothing refl (λ u. record {
           lines = [];
           numbered_are = refl;
           within = refl;
@@ -461,8 +455,7 @@ module _ (names : List NameEntry) (distinct : AreDistinct names) (readable : Lis
         let write = and_parts (node_is_writable names x) (list_all (node_is_writable names) xs) writable in
         let place : first + 0 ≡ first = omega arith in
         made (beside (node_part first (omega (arith, few)) x write.0 (subst (λ k. KeptNode k x) place (keep 0 x refl)))
-        (nodes_part (suc first) xs (omega (arith, few)) write.1 (λ i y is. subst (λ k. KeptNode k y) (next i) (keep (suc i) y is)))) refl
-        (λ l. flat_map ended_pieces (node_lines first l.lines)) (λ y.
+        (nodes_part (suc first) xs (omega (arith, few)) write.1 (λ i y is. subst (λ k. KeptNode k y) (next i) (keep (suc i) y is)))) refl (λ y.
         let head = y.0 in
         let rest = y.1 in
         record {
@@ -496,8 +489,7 @@ module _ (names : List NameEntry) (distinct : AreDistinct names) (readable : Lis
       lines_read make (numbered names text) declared_use line_text ids (each_weaker (λ s. signal_fits names s ≡ true)
       (λ s. ReadAs (one_line make (numbered names text) declared_use) s (line_text s)) (λ s fit.
       let parts = and_parts (is_name names s Signal 0) (is_usable_at names s) fit in
-      made (beside (beside (exactly w) (name_part names distinct readable text s parts.1)) (exactly (codes "\n"))) refl
-      (λ l. ended_pieces (make l.line)) (λ x. record {
+      made (beside (beside (exactly w) (name_part names distinct readable text s parts.1)) (exactly (codes "\n"))) refl (λ x. record {
         line = x.0.1.at;
         numbered_is = number_at names distinct readable text s Signal 0 parts.0 x.0.1;
         within = within x.0.1.at;

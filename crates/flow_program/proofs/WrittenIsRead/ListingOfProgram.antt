@@ -274,7 +274,7 @@ module _ (text : List ℕ) (names : List NameEntry) (distinct : AreDistinct name
       (windows_part names distinct readable text p.cells p.windows h.is_writable.windows h.is_program.windows_fit))
       (nodes_part names distinct readable text (p.cells ++ p.outputs) controlled_fit (length p.states) h.is_writable.few_states 0 p.nodes
       (omega (arith, h.is_writable.few_nodes)) h.is_writable.nodes kept_nodes)) (states_part 0 p.states))
-      (beside (exactly (codes "end")) (exactly (codes "\n")))) refl (λ l. flat_map ended_pieces (listing_lines (listing_at l)))
+      (beside (exactly (codes "end")) (exactly (codes "\n")))) refl
       (λ x. record {
         inputs = x.0.0.0.0.0.0.1;
         cells = x.0.0.0.0.0.1;

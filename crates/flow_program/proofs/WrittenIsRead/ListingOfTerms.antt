@@ -181,7 +181,7 @@ module _ (names : List NameEntry) where
         (arguments_text names ts) →
         Part text (application_at {f = f} {ts = ts}) (name_text names f ++ applied_text ts (arguments_text names ts))
     application_part f ts usable arguments =
-        made (beside (name_part f usable) (behind ts arguments)) refl application_at (λ x. x)
+        made (beside (name_part f usable) (behind ts arguments)) refl (λ x. x)
         (λ x. ap (λ ps. named x.0.at ∷ ps) (x.1.follow (surfaces_at x.1)))
       where
         behind : (us : TermTrees) → Part text (surfaces_at {ts = us}) (arguments_text names us) →
@@ -193,7 +193,7 @@ module _ (names : List NameEntry) where
 
     argument_part : (t : TermTree) → Part text (surface_at {t = t}) (term_text names t) →
         Part text (λ (l : ListingOfTerm t). argument_pieces l.surface (surface_at l)) (argument_text t (term_text names t))
-    argument_part t term = made (around t term) refl (λ l. argument_pieces l.surface (surface_at l)) (λ l. l)
+    argument_part t term = made (around t term) refl (λ l. l)
         (λ l. l.argument (surface_at l))
       where
         around : (u : TermTree) → Part text (surface_at {t = u}) (term_text names u) →
@@ -201,15 +201,14 @@ module _ (names : List NameEntry) where
         around (signal s) p = p
         around (apply f no_terms) p = p
         around (apply f (more_terms v vs)) p =
-            made (beside (beside (exactly (codes "(")) p) (exactly (codes ")"))) refl
-            (λ l. argument_of (apply f (more_terms v vs)) (surface_at l)) (λ x. x.0.1) (λ x. refl)
+            made (beside (beside (exactly (codes "(")) p) (exactly (codes ")"))) refl (λ x. x.0.1) (λ x. refl)
 
     mutual
       pub term_part : (t : TermTree) → term_fits names t ≡ true → reads_only readable t ≡ true →
           Part text (surface_at {t = t}) (term_text names t)
       term_part (signal s) fits reads =
           let parts = and_parts (is_name names s Signal 0) (is_usable_at names s) fits in
-          made (name_part s parts.1) refl surface_at (λ n. record {
+          made (name_part s parts.1) refl (λ n. record {
             surface = bare n.at;
             numbered_is = ap (option_map signal) (number_at s Signal 0 parts.0 n);
             deep = refl;
@@ -220,7 +219,7 @@ module _ (names : List NameEntry) where
       term_part (apply f ts) fits reads =
           let parts = and_parts (is_name names f Function (count_of_terms ts) && is_usable_at names f) (terms_fit names ts) fits in
           let name = and_parts (is_name names f Function (count_of_terms ts)) (is_usable_at names f) parts.0 in
-          made (application_part f ts name.1 (terms_part ts parts.1 reads)) refl surface_at (λ x. record {
+          made (application_part f ts name.1 (terms_part ts parts.1 reads)) refl (λ x. record {
             surface = applied x.0.at x.1.surfaces;
             numbered_is = ap (option_and_then (λ n. option_map (apply n) (numbered_terms names text x.1.surfaces)))
                 (number_at f Function (count_of_terms ts) name.0 x.0) ∙ ap (option_map (apply f)) x.1.numbered_are;
@@ -236,7 +235,7 @@ module _ (names : List NameEntry) where
 
       terms_part : (ts : TermTrees) → terms_fit names ts ≡ true → read_only readable ts ≡ true →
           Part text (surfaces_at {ts = ts}) (arguments_text names ts)
-      terms_part no_terms fits reads = made nothing refl surfaces_at (λ u. record {
+      terms_part no_terms fits reads = made nothing refl (λ u. record {
         surfaces = no_surfaces;
         numbered_are = refl;
         deep = refl;
@@ -249,8 +248,7 @@ module _ (names : List NameEntry) where
       terms_part (more_terms t ts) fits reads =
           let fit = and_parts (term_fits names t) (terms_fit names ts) fits in
           let read = and_parts (reads_only readable t) (read_only readable ts) reads in
-          made (beside (beside (exactly (codes " ")) (argument_part t (term_part t fit.0 read.0))) (terms_part ts fit.1 read.1)) refl
-          surfaces_at (λ x. record {
+          made (beside (beside (exactly (codes " ")) (argument_part t (term_part t fit.0 read.0))) (terms_part ts fit.1 read.1)) refl (λ x. record {
             surfaces = more_surfaces x.0.1.surface x.1.surfaces;
             numbered_are = ap (option_and_then (λ tree. option_map (more_terms tree) (numbered_terms names text x.1.surfaces)))
                 x.0.1.numbered_is ∙ ap (option_map (more_terms t)) x.1.numbered_are;
@@ -275,7 +273,7 @@ module _ (names : List NameEntry) where
     application_test q ts fits fit usable flat reads other =
         let probe = probe_with q ts in
         made (application_part q ts usable (terms_part ts fit reads))
-        (sym (ap (λ b. cond b (question_text names probe ts) (application_text names probe)) other)) (λ l. surface_pieces l.line) (λ x. record {
+        (sym (ap (λ b. cond b (question_text names probe ts) (application_text names probe)) other)) (λ x. record {
           line = applied x.0.at x.1.surfaces;
           numbered_is = ap (option_and_then (λ n. option_map (probe_with n) (numbered_terms names text x.1.surfaces)))
               (number_at q Predicate (count_of_terms ts) fits x.0) ∙ ap (option_map (probe_with q)) x.1.numbered_are;
@@ -301,7 +299,7 @@ module _ (names : List NameEntry) where
         let asked = entry_is q Predicate 1 question fits (sym text_is) in
         let arguments = more_terms (signal s) no_terms in
         made (name_part s name.1)
-        (sym (ap (λ b. cond b (name_text names s) (application_text names (probe_with q arguments))) asks)) (λ l. surface_pieces l.line) (λ n. record {
+        (sym (ap (λ b. cond b (name_text names s) (application_text names (probe_with q arguments))) asks)) (λ n. record {
           line = bare n.at;
           numbered_is =
               ap (option_and_then (λ k. option_map (λ m. probe_with m (more_terms (signal k) no_terms)) (number_of names question)))

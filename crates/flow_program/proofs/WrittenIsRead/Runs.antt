@@ -93,8 +93,8 @@ beside {text = text} {a = a} {b = b} first second = record {
 }
 
 -- what is made of a part, where the bytes and the pieces are these too
-pub made : {text : List ℕ} {X Y : Type 0} {p : X → List Piece} {a b : List ℕ} → Part text p a → a ≡ b → (q : Y → List Piece) (f : X → Y) →
-    ((x : X) → p x ≡ q (f x)) → Part text q b
-made {text = text} {a = a} part spelled q f same = subst (Part text q) spelled (record {
+pub made : {text : List ℕ} {X Y : Type 0} {p : X → List Piece} {q : Y → List Piece} {a b : List ℕ} → Part text p a → a ≡ b →
+    (f : X → Y) → ((x : X) → p x ≡ q (f x)) → Part text q b
+made {text = text} {q = q} {a = a} part spelled f same = subst (Part text q) spelled (record {
   runs = λ front occurs. let x = part.runs front occurs in (f x.0, subst (λ ps. Run ps front a) (same x.0) x.1);
 })
