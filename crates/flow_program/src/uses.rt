@@ -208,6 +208,7 @@ trait UsesNames {
 }
 
 /// Adds the uses of parts of one line.
+#[tactic(auto, using(sequence::proofs::Passes::map_passes_within, sequence::proofs::Lists::part_is_few))]
 fn add_all<'a, U: UsesNames>(
     list: &mut Vec<SpelledUse<'a>>,
     text: &'a [u8],
@@ -226,6 +227,7 @@ fn add_all<'a, U: UsesNames>(
 }
 
 /// Adds the uses of parts that have a line each, the first of which has this number.
+#[tactic(auto, using(sequence::proofs::Passes::map_passes_within, crate::proofs::UseLemmas::line_is_few, crate::proofs::UseLemmas::lines_left, sequence::proofs::Lists::written_step))]
 fn add_lines<'a, U: UsesNames>(
     list: &mut Vec<SpelledUse<'a>>,
     text: &'a [u8],
@@ -366,6 +368,7 @@ impl UsesNames for SpelledNode {
 }
 
 /// Adds the signals that lines declare, the first of which has this number.
+#[tactic(auto, using(sequence::proofs::Passes::passes_within))]
 fn add_declared<'a>(
     list: &mut Vec<SpelledUse<'a>>,
     text: &'a [u8],
