@@ -66,20 +66,3 @@ declared_append text line [] ys = ap (λ k. declared_uses text k ys) (let e : li
 declared_append text line (x ∷ xs) ys =
     ap (λ us. signal_use text line x ∷ us) (declared_append text (suc line) xs ys
     ∙ ap (λ k. declared_uses text (suc line) xs ++ declared_uses text k ys) (shift line (length xs)))
-
--- the uses of each kind of line, one after another, are all
-pub uses_joined : (text : List ℕ) (l : ListingTree) (ins cs os : List Name) (ws : List WindowLine) (ns : List NodeLine)
-    (second third w n : ℕ) (a b c d e f : List ProgramUse) → ins ≡ l.inputs → cs ≡ l.cells → os ≡ l.outputs → ws ≡ l.windows →
-    ns ≡ l.nodes →
-    second ≡ 2 + length l.inputs → third ≡ second + length l.cells → w ≡ first_window l → n ≡ first_node l →
-    a ≡ [] → b ≡ a ++ declared_uses text 2 ins → c ≡ b ++ declared_uses text second cs → d ≡ c ++ declared_uses text third os →
-    e ≡ d ++ windows_uses text w ws → f ≡ e ++ nodes_uses text n ns → f ≡ uses_of text l
-uses_joined text l ins cs os ws ns second third w n a b c d e f ins_are cs_are os_are ws_are ns_are second_is third_is w_is n_is none
-    b_is c_is d_is e_is f_is =
-    let both : third ≡ 2 + length (l.inputs ++ l.cells) = omega (arith, third_is, second_is, length-append l.inputs l.cells) in
-    let b_all : b ≡ declared_uses text 2 l.inputs = b_is ∙ (λ i. none i ++ declared_uses text 2 (ins_are i)) in
-    let c_all : c ≡ declared_uses text 2 (l.inputs ++ l.cells) =
-    c_is ∙ (λ i. b_all i ++ declared_uses text (second_is i) (cs_are i)) ∙ sym (declared_append text 2 l.inputs l.cells) in
-    let d_all : d ≡ declared_uses text 2 (declared l) =
-    d_is ∙ (λ i. c_all i ++ declared_uses text (both i) (os_are i)) ∙ sym (declared_append text 2 (l.inputs ++ l.cells) l.outputs) in
-    f_is ∙ (λ i. (e_is ∙ (λ j. d_all j ++ windows_uses text (w_is j) (ws_are j))) i ++ nodes_uses text (n_is i) (ns_are i))

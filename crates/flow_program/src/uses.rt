@@ -108,7 +108,7 @@ fn count_of_surfaces(surfaces: &SurfaceTermList) -> u32
 }
 
 /// Adds the uses of a term.
-#[tactic(auto, using(crate::proofs::UseLemmas::count_within))]
+#[tactic(auto, using(crate::proofs::UseLemmas::count_within, std::proofs::lemmas::Bool::and_parts))]
 #[cycle(term_uses)]
 fn add_term<'a>(
     list: &mut Vec<SpelledUse<'a>>,
@@ -156,7 +156,7 @@ fn add_terms<'a>(
 }
 
 /// Adds the uses of a test.
-#[tactic(auto, using(crate::proofs::UseLemmas::count_within))]
+#[tactic(auto, using(crate::proofs::UseLemmas::count_within, std::proofs::lemmas::Bool::and_parts))]
 fn add_test<'a>(
     list: &mut Vec<SpelledUse<'a>>,
     text: &'a [u8],
@@ -332,6 +332,7 @@ impl UsesNames for SpelledWindow {
 
     ghost uses = { window_uses };
 
+    #[tactic(auto, using(std::proofs::lemmas::Bool::and_parts))]
     fn add_uses<'a>(
         &self,
         list: &mut Vec<SpelledUse<'a>>,

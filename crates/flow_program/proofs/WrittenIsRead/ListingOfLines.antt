@@ -158,11 +158,11 @@ module _ (names : List NameEntry) (distinct : AreDistinct names) (readable : Lis
     lines_read spelled [] each = made nothing refl
         (λ u. record { line = []; numbered_is = refl; within = refl; held = λ n. tt }) (λ u. refl)
     lines_read spelled (y ∷ ys) each = made (beside each.0 (lines_read spelled ys each.1)) refl (λ x. record {
-          line = x.0.line ∷ x.1.line;
-          numbered_is = all_there_next numbered_as x.0.line x.1.line y ys x.0.numbered_is x.1.numbered_is;
-          within = and_from (line_is_within (make x.0.line)) (list_all line_is_within (map make x.1.line)) x.0.within x.1.within;
-          held = λ n. joined_held (uses n x.0.line) (line_uses uses (suc n) x.1.line) (x.0.held n) (x.1.held (suc n));
-        }) (λ x. refl)
+      line = x.0.line ∷ x.1.line;
+      numbered_is = all_there_next numbered_as x.0.line x.1.line y ys x.0.numbered_is x.1.numbered_is;
+      within = and_from (line_is_within (make x.0.line)) (list_all line_is_within (map make x.1.line)) x.0.within x.1.within;
+      held = λ n. joined_held (uses n x.0.line) (line_uses uses (suc n) x.1.line) (x.0.held n) (x.1.held (suc n));
+    }) (λ x. refl)
 
   -- ---- an update, `[s <- t]`
 
