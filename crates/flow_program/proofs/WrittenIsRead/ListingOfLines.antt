@@ -5,7 +5,7 @@ use Rattle.std.proofs.Common.{arith, rules, Bool, cond, length, map, flat_map}
 use Rattle.std.proofs.Common.{append_assoc}
 use Rattle.std.specs.Prelude.{Option, Some, None, option_map, nat_le, nat_lt, codes, decimal, slice_get, bytes_eq, IsTrue}
 use Rattle.std.specs.List.{list_all, AllByRecursion}
-use Rattle.std.proofs.lemmas.Bool.{and_from, and_parts, lt-ltb, ltb-true, leb-true, eqb-true}
+use Rattle.std.proofs.lemmas.Bool.{and_from, and_parts, not-true, lt-ltb, ltb-true, leb-true, eqb-true}
 use Rattle.std.proofs.lemmas.List.Folds.{list_all-map}
 use Rattle.sequence.proofs.Bytes.{bytes_same}
 use Rattle.sequence.proofs.Each.{each_joined, each_from_places, each_flat_map, each_weaker}
@@ -38,7 +38,7 @@ use Rattle.flow_program.specs.Uses.{ProgramUse, signal_use, term_uses, update_us
 use Rattle.flow_program.specs.Uses.{node_uses, test_uses}
 use Rattle.flow_program.specs.Uses.{line_uses, nodes_uses}
 use Rattle.flow_program.specs.Rules.{first_place, are_texts, breaks_order, goes_nowhere, breaks_updates}
-use Rattle.flow_program.proofs.WrittenIsRead.Runs.{Run, no_run, a_word, joined, Part, nothing, exactly, beside, made}
+use Rattle.flow_program.proofs.WrittenIsRead.Runs.{Part, nothing, exactly, beside, made}
 use Rattle.flow_program.specs.internal.Numbering.{small, numbered, numbered_term, numbered_listed, numbered_equated}
 use Rattle.flow_program.specs.internal.Numbering.{numbered_left, numbered_window, numbered_node, window_of}
 use Rattle.flow_program.proofs.NumberLemmas.{small_is, listed_numbered, equated_numbered, window_numbered, branch_numbered, assignment_numbered}
@@ -61,40 +61,24 @@ none_place test (x ∷ xs) h k = next_place test k x xs (h k 0 x refl) (none_pla
 -- what a window of a program keeps
 pub record KeptWindow (readable cells : List ℕ) (x : WindowTree) : Type 0 where
   pub short : (nat_le x.length longest && nat_le x.left_at x.length) ≡ true
-  pub length_short : x.length ≤ 3
-  pub left_short : x.left_at ≤ 3
   pub updates : list_all (λ u. nat_lt u.offset x.length && is_among cells u.signal) x.updates ≡ true
   pub rise : rises cells x.updates ≡ true
+  pub left : left_is_shaped x.left x.left_at ≡ true
   pub offsets : list_all (λ e. nat_le e.offset x.length) x.equalities ≡ true
   pub order : stand_in_order x.equalities ≡ true
-  pub left : left_is_shaped x.left x.left_at ≡ true
-  pub left_reads : list_all (λ p. read_only readable p.arguments) (left_probes x.left) ≡ true
-  pub right_reads : read_only readable x.right.arguments ≡ true
-  pub equalities_read : list_all (λ e. read_only readable e.probe.arguments) x.equalities ≡ true
-  pub reads : list_all (λ u. reads_only readable u.term) x.updates ≡ true
+  pub probes_read : list_all (λ p. read_only readable p.arguments) (window_probes x) ≡ true
+  pub terms_read : list_all (λ u. reads_only readable u.term) x.updates ≡ true
 
 pub kept_window : (readable cells : List ℕ) (x : WindowTree) → window_fits readable cells x ≡ true → KeptWindow readable cells x
-kept_window readable cells x fits =
-    let reads_it = λ (p : ProbeTree). read_only readable p.arguments in
-    let all_read : list_all reads_it (window_probes x) ≡ true = search rules in
-    let tests = list_all_parts reads_it (map (λ (e : EquatedTree). e.probe) x.equalities) (left_probes x.left ++ x.right ∷ []) all_read in
-    let both = list_all_parts reads_it (left_probes x.left) (x.right ∷ []) tests.1 in
-    let length_short : nat_le x.length longest ≡ true = search rules in
-    let left_short : nat_le x.left_at x.length ≡ true = search rules in
-    record {
-      short = search rules;
-      length_short = leb-true x.length longest length_short;
-      left_short = omega (arith, leb-true x.length longest length_short, leb-true x.left_at x.length left_short);
-      updates = search rules;
-      rise = search rules;
-      offsets = search rules;
-      order = search rules;
-      left = search rules;
-      left_reads = both.0;
-      right_reads = search rules;
-      equalities_read = sym (list_all-map reads_it (λ (e : EquatedTree). e.probe) x.equalities) ∙ tests.0;
-      reads = search rules;
-    }
+kept_window readable cells x fits = search rules
+
+-- what all probes of a window pass
+probes_pass : (test : ProbeTree → Bool) (x : WindowTree) → list_all test (window_probes x) ≡ true →
+    (list_all test (left_probes x.left) ≡ true) × (test x.right ≡ true) × (list_all (λ e. test e.probe) x.equalities ≡ true)
+probes_pass test x all =
+    let parts = list_all_parts test (map (λ (e : EquatedTree). e.probe) x.equalities) (left_probes x.left ++ x.right ∷ []) all in
+    let sides = list_all_parts test (left_probes x.left) (x.right ∷ []) parts.1 in
+    (sides.0, (and_parts (test x.right) true sides.1).0, sym (list_all-map test (λ (e : EquatedTree). e.probe) x.equalities) ∙ parts.0)
 
 -- three tests that all members pass, and what follows for each
 all_pass : {X : Type 0} (p q r : X → Bool) (P : X → Type 0) → ((x : X) → p x ≡ true → q x ≡ true → r x ≡ true → P x) → (xs : List X) →
@@ -322,22 +306,21 @@ module _ (names : List NameEntry) (distinct : AreDistinct names) (readable : Lis
       ReadAs one_window x (window_text names x)
   window_part cells x writable fits =
       let k : KeptWindow readable cells x = kept_window readable cells x fits in
-      let probes : list_all (probe_is_writable names) (window_probes x) ≡ true = search rules in
-      let listed_write : list_all (listed_is_writable names) x.updates ≡ true = search rules in
-      let write = list_all_parts (probe_is_writable names) (map (λ (e : EquatedTree). e.probe) x.equalities)
-      (left_probes x.left ++ x.right ∷ []) probes in
-      let sides = list_all_parts (probe_is_writable names) (left_probes x.left) (x.right ∷ []) write.1 in
-      let short : x.length ≤ 3 = k.length_short in
+      let parts = and_parts (list_all (probe_is_writable names) (window_probes x)) _ writable in
+      let write = probes_pass (probe_is_writable names) x parts.0 in
+      let read = probes_pass (λ p. read_only readable p.arguments) x k.probes_read in
+      let both = and_parts (nat_le x.length longest) (nat_le x.left_at x.length) k.short in
+      let short : x.length ≤ 3 = leb-true x.length longest both.0 in
+      let left_short : x.left_at ≤ 3 = omega (arith, short, leb-true x.left_at x.length both.1) in
       let all_listed = all_pass (listed_is_writable names) (λ u. reads_only readable u.term)
-      (λ u. nat_lt u.offset x.length && is_among cells u.signal) (λ u. ReadAs listed u (listed_text names u)) (λ u written read within.
+      (λ u. nat_lt u.offset x.length && is_among cells u.signal) (λ u. ReadAs listed u (listed_text names u)) (λ u written reads within.
       let below : nat_lt u.offset x.length ≡ true = search rules in
-      listed_part u written read (omega (arith, ltb-true u.offset x.length below, short))) x.updates listed_write k.reads k.updates in
+      listed_part u written reads (omega (arith, ltb-true u.offset x.length below, short))) x.updates parts.1 k.terms_read k.updates in
       let all_equal = all_pass (λ e. probe_is_writable names e.probe) (λ e. read_only readable e.probe.arguments)
-      (λ e. nat_le e.offset x.length) (λ e. ReadAs equalities e (equated_text names e)) (λ e written read within.
-      equality_part e written read (omega (arith, leb-true e.offset x.length within, short))) x.equalities
-      (sym (list_all-map (probe_is_writable names) (λ (y : EquatedTree). y.probe) x.equalities) ∙ write.0) k.equalities_read k.offsets in
-      made (beside (beside (exactly (codes "window ")) (beside (left_part x.left x.left_at sides.0 k.left_reads k.left k.left_short)
-      (beside (placed_part x.right x.length (and_parts _ true sides.1).0 k.right_reads) (beside (many_read listed (listed_text names) x.updates all_listed)
+      (λ e. nat_le e.offset x.length) (λ e. ReadAs equalities e (equated_text names e)) (λ e written reads within.
+      equality_part e written reads (omega (arith, leb-true e.offset x.length within, short))) x.equalities write.2 read.2 k.offsets in
+      made (beside (beside (exactly (codes "window ")) (beside (left_part x.left x.left_at write.0 read.0 k.left left_short)
+      (beside (placed_part x.right x.length write.1 read.1) (beside (many_read listed (listed_text names) x.updates all_listed)
       (many_read equalities (equated_text names) x.equalities all_equal))))) (exactly (codes "\n"))) (simp append_assoc) (λ y.
       let l = y.0.1.0 in let r = y.0.1.1.0 in let us = y.0.1.1.1.0 in let es = y.0.1.1.1.1 in
       let line : WindowLine =
@@ -345,7 +328,7 @@ module _ (names : List NameEntry) (distinct : AreDistinct names) (readable : Lis
       record {
         line = line;
         numbered_is = window_numbered names text line x.left x.right x.updates x.equalities l.part.numbered_is r.numbered_is
-            (small_is (left_step l.part.line) (omega (arith, l.step_is, k.left_short))) (small_is x.length (omega (arith, short)))
+            (small_is (left_step l.part.line) (omega (arith, l.step_is, left_short))) (small_is x.length (omega (arith, short)))
             us.numbered_is es.numbered_is
             ∙ (λ i. Some (window_of x.left x.right (l.step_is i) x.length x.updates x.equalities));
         within = simp (l.part.within, r.within, short_is x.length (omega (arith, short)), us.within, es.within);
@@ -376,14 +359,15 @@ module _ (names : List NameEntry) (distinct : AreDistinct names) (readable : Lis
     KeptNode number (branch t a b) = (a < number) × (b < number) × IsTrue (read_only readable t.arguments)
     KeptNode number (assign ts go) = (length ts ≡ length controlled) × (go < states) × IsTrue (list_all (reads_only readable) ts)
 
-    pub record ListingOfNode (number : ℕ) (x : NodeTree) : Type 0 where
-      pub line : NodeLine
-      pub numbered_is : numbered_node names text line ≡ Some x
-      pub within : line_is_within (node_tree_line number line) ≡ true
-      pub order : breaks_order number line ≡ false
-      pub go : goes_nowhere states number line ≡ false
-      pub updates : breaks_updates text controlled_texts number line ≡ false
-      pub held : (n : ℕ) → Held (node_uses text n line)
+    -- the line of a node with this number, which breaks no rule
+    abbrev node_at : ℕ → Kind NodeLine NodeTree
+    node_at number = record {
+      numbered_as = numbered_node names text;
+      pieces = λ n. ended_pieces (node_tree_line number n);
+      is_within = λ n. (line_is_within (node_tree_line number n) && not (breaks_order number n))
+          && (not (goes_nowhere states number n) && not (breaks_updates text controlled_texts number n));
+      uses = node_uses text;
+    }
 
     same_texts : (xs ys : List (List ℕ)) → xs ≡ ys → are_texts xs ys ≡ true
     same_texts xs ys is = ap (are_texts xs) (sym is) ∙ itself xs where
@@ -392,7 +376,7 @@ module _ (names : List NameEntry) (distinct : AreDistinct names) (readable : Lis
       itself (z ∷ zs) = and_from (bytes_eq z z) (are_texts zs zs) (bytes_same z z refl) (itself zs)
 
     node_part : (number : ℕ) → number ≤ 65536 → (x : NodeTree) → node_is_writable names x ≡ true → KeptNode number x →
-        Part text (λ (l : ListingOfNode number x). ended_pieces (node_tree_line number l.line)) (node_text names controlled number x)
+        ReadAs (node_at number) x (node_text names controlled number x)
     node_part number few (branch t a b) writable keeps =
         let a_few : a ≤ 65536 = omega (arith, few, keeps.0) in
         let b_few : b ≤ 65536 = omega (arith, few, keeps.1) in
@@ -405,10 +389,7 @@ module _ (names : List NameEntry) (distinct : AreDistinct names) (readable : Lis
           line = branch_line p.line a b;
           numbered_is = branch_numbered names text p.line t a b p.numbered_is (small_is a (omega (arith, a_few)))
               (small_is b (omega (arith, b_few)));
-          within = simp (short_is number few, p.within, short_is a a_few, short_is b b_few);
-          order = ap not (and_from (nat_lt a number) (nat_lt b number) (lt-ltb a number keeps.0) (lt-ltb b number keeps.1));
-          go = refl;
-          updates = refl;
+          within = simp (short_is number few, p.within, short_is a a_few, short_is b b_few, lt-ltb a number keeps.0, lt-ltb b number keeps.1);
           held = p.held;
         }) (λ x. refl)
     node_part number few (assign ts go) writable keeps =
@@ -422,10 +403,9 @@ module _ (names : List NameEntry) (distinct : AreDistinct names) (readable : Lis
         record {
           line = assignment_line p.updates go;
           numbered_is = assignment_numbered names text p.updates ts go p.numbered_are (small_is go (omega (arith, go_few)));
-          within = simp (short_is number few, p.flat, short_is go go_few);
-          order = refl;
-          go = ap not (lt-ltb go states keeps.1);
-          updates = ap not (same_texts (map (λ u. name_bytes text u.signal) p.updates) controlled_texts p.texts_are);
+          within =
+              let same = same_texts (map (λ u. name_bytes text u.signal) p.updates) controlled_texts p.texts_are in
+              simp (short_is number few, p.flat, short_is go go_few, lt-ltb go states keeps.1, same);
           held = p.held;
         }) (λ x. refl)
 
@@ -458,14 +438,16 @@ module _ (names : List NameEntry) (distinct : AreDistinct names) (readable : Lis
         (nodes_part (suc first) xs (omega (arith, few)) write.1 (λ i y is. subst (λ k. KeptNode k y) (next i) (keep (suc i) y is)))) refl (λ y.
         let head = y.0 in
         let rest = y.1 in
+        let parts = and_parts _ _ head.within in
+        let both = and_parts _ _ parts.0 in
+        let rules_kept = and_parts _ _ parts.1 in
         record {
           lines = head.line ∷ rest.lines;
           numbered_are = all_there_next (numbered_node names text) head.line rest.lines x xs head.numbered_is rest.numbered_are;
-          within = and_from (line_is_within (node_tree_line first head.line)) (list_all line_is_within (node_lines (suc first) rest.lines))
-              head.within rest.within;
-          order = next_place breaks_order first head.line rest.lines head.order rest.order;
-          go = next_place (goes_nowhere states) first head.line rest.lines head.go rest.go;
-          updates = next_place (breaks_updates text controlled_texts) first head.line rest.lines head.updates rest.updates;
+          within = and_from _ _ both.0 rest.within;
+          order = next_place breaks_order first head.line rest.lines (not-true _ both.1) rest.order;
+          go = next_place (goes_nowhere states) first head.line rest.lines (not-true _ rules_kept.0) rest.go;
+          updates = next_place (breaks_updates text controlled_texts) first head.line rest.lines (not-true _ rules_kept.1) rest.updates;
           held = λ line. joined_held (node_uses text line head.line) (nodes_uses text (suc line) rest.lines)
               (head.held line) (rest.held (suc line));
         }) (λ y. refl)
@@ -496,16 +478,12 @@ module _ (names : List NameEntry) (distinct : AreDistinct names) (readable : Lis
         held = λ n. (applied_held names distinct readable text n Signal s 0 parts.0 x.0.1, tt);
       }) (λ x. pieces x.0.1.at)) ids (each_from_list_all (signal_fits names) ids fits))
 
-states_run : (s : ℕ) (is : List ℕ) (front : List ℕ) → Run (flat_map ended_pieces (state_lines s is)) front (states_text s is)
-states_run s [] front = no_run
-states_run s (n ∷ is) front =
-    let line = (((codes "state " ++ decimal s) ++ codes " at ") ++ decimal n) ++ codes "\n" in
-    joined (joined (joined (joined (joined (a_word (codes "state ")) (a_word (decimal s))) (a_word (codes " at "))) (a_word (decimal n)))
-    (a_word (codes "\n"))) (states_run (suc s) is (front ++ line))
-
 pub states_part : {text : List ℕ} (s : ℕ) (is : List ℕ) →
     Part text (λ (u : Unit {0}). flat_map ended_pieces (state_lines s is)) (states_text s is)
-states_part s is = record { runs = λ front occurs. (tt, states_run s is front) }
+states_part s [] = nothing
+states_part s (n ∷ is) =
+    made (beside (beside (beside (beside (beside (exactly (codes "state ")) (exactly (decimal s))) (exactly (codes " at ")))
+    (exactly (decimal n))) (exactly (codes "\n"))) (states_part (suc s) is)) refl (λ x. tt) (λ x. refl)
 
 pub states_numbered : (is : List ℕ) → ((i n : ℕ) → slice_get is i ≡ Some n → n < 65536) → all_there (map small is) ≡ Some is
 states_numbered [] below = refl

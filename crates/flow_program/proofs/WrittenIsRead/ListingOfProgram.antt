@@ -49,7 +49,9 @@ use Rattle.tsl_terms.specs.Name.{same_kind, is_name}
 use Rattle.flow_program.specs.Reading.{GoOnFrom}
 use Rattle.flow_program.specs.internal.Numbering.{Numbered}
 use Rattle.std.proofs.lemmas.Grind.{flat_map-append}
-use Rattle.std.proofs.Common.{append_assoc}
+use Rattle.std.proofs.Common.{append_assoc, rules}
+use Rattle.std.specs.Prelude.{nat_lt}
+use Rattle.sequence.specs.Numbers.{is_among}
 use Rattle.flow_program.proofs.KnownUses.{named_is_first}
 use Rattle.tsl_terms.proofs.FirstUses.{first_of, FirstAt, first_at}
 use Rattle.flow_program.proofs.CellPlaces.{placed_some, second_once, AreListed, are_listed, within_alike, rise_alike}
