@@ -42,7 +42,7 @@ use Rattle.flow_program.proofs.WrittenIsRead.Runs.{Part, nothing, exactly, besid
 use Rattle.flow_program.specs.internal.Numbering.{small, numbered, numbered_term, numbered_listed, numbered_equated}
 use Rattle.flow_program.specs.internal.Numbering.{numbered_left, numbered_window, numbered_node, window_of}
 use Rattle.flow_program.proofs.NumberLemmas.{small_is, listed_numbered, equated_numbered, window_numbered, branch_numbered, assignment_numbered}
-use Rattle.flow_program.proofs.WrittenIsRead.ListingOfTerms.{HeldUse, Kind, PartOf, Reads, name_part, number_at, applied_held, term_part, tests, test_part}
+use Rattle.flow_program.proofs.WrittenIsRead.ListingOfTerms.{HeldUse, Kind, PartOf, Reads, name_part, number_at, applied_held, surface_of, as_deep, term_numbered, term_held, term_part, tests, test_part}
 
 pub short_is : (n : ℕ) → n ≤ 65536 → is_short n ≡ true
 short_is n h = lt-ltb n 1000000000000000000 (omega (arith, h))
@@ -165,14 +165,14 @@ module _ (names : List NameEntry) (distinct : AreDistinct names) (readable : Lis
       let signal = and_parts (is_name names s Signal 0) (is_usable_at names s) fits in
       let term = and_parts (term_fits names t) (nat_le (brackets t) deepest) writable in
       made (beside (beside (beside (beside (exactly (codes "[")) (name_part names distinct readable text s signal.1))
-      (exactly (codes " <- "))) (term_part names distinct readable text t term.0 reads)) (exactly (codes "]"))) refl (λ x. let n = x.0.0.0.1 in let p = x.0.1 in record {
+      (exactly (codes " <- "))) (term_part names distinct readable text t term.0)) (exactly (codes "]"))) refl (λ x. let n = x.0.0.0.1 in let p = x.0.1 in record {
         signal = n.at;
-        term = p.surface;
+        term = surface_of names distinct readable text t p;
         signal_is = number_at names distinct readable text s Signal 0 signal.0 n;
-        numbered_is = p.numbered_is;
+        numbered_is = term_numbered names distinct readable text t p term.0;
         text_is = n.bytes_are;
-        flat = ap (λ n. nat_le n deepest) p.deep ∙ term.1;
-        held = λ line. (applied_held names distinct readable text line Signal s 0 signal.0 n, p.held line);
+        flat = ap (λ n. nat_le n deepest) (as_deep names distinct readable text t p) ∙ term.1;
+        held = λ line. (applied_held names distinct readable text line Signal s 0 signal.0 n, term_held names distinct readable text t p term.0 reads line);
       }) (λ x. refl)
 
   -- ---- the updates of an assignment

@@ -137,129 +137,105 @@ module _ (names : List NameEntry) where
 
     -- ---- terms
 
-    -- the pieces of an argument, and what follows a name
-    abbrev argument_of : TermTree → List Piece → List Piece
-    argument_of (apply f (more_terms t ts)) pieces = word (codes "(") ∷ (pieces ++ word (codes ")") ∷ [])
-    argument_of (apply f no_terms) pieces = pieces
-    argument_of (signal s) pieces = pieces
+    -- names that stand for those of a term, and the surface term of these
+    abbrev mutual
+      pub NamesOf : TermTree → Type 0
+      NamesOf (signal s) = NameAt s
+      NamesOf (apply f ts) = NameAt f × NamesOfAll ts
 
-    abbrev applied_of : TermTrees → List Piece → List Piece
-    applied_of no_terms pieces = word (codes "()") ∷ []
-    applied_of (more_terms t ts) pieces = pieces
+      pub NamesOfAll : TermTrees → Type 0
+      NamesOfAll no_terms = Unit {0}
+      NamesOfAll (more_terms t ts) = NamesOf t × NamesOfAll ts
 
-    -- a surface term of the form of a term
-    pub record ListingOfTerm (t : TermTree) : Type 0 where
-      pub surface : SurfaceTermTree
-      pub numbered_is : numbered_term names text surface ≡ Some t
-      pub deep : surface_brackets surface ≡ brackets t
-      pub shape : (d : ℕ) → bracketed_surface surface d ≡ bracketed t d
-      pub argument : (pieces : List Piece) → argument_of t pieces ≡ argument_pieces surface pieces
-      pub held : (line : ℕ) → AllByRecursion (HeldUse readable) (term_uses text line surface)
+    abbrev mutual
+      pub surface_of : (t : TermTree) → NamesOf t → SurfaceTermTree
+      surface_of (signal s) n = bare n.at
+      surface_of (apply f ts) n = applied n.0.at (surfaces_of ts n.1)
 
-    record ListingOfTerms (ts : TermTrees) : Type 0 where
-      pub surfaces : SurfaceTermTrees
-      pub numbered_are : numbered_terms names text surfaces ≡ Some ts
-      pub deep : surfaces_brackets surfaces ≡ brackets_of_arguments ts
-      pub count : count_of_surfaces surfaces ≡ count_of_terms ts
-      pub shape : (f : ℕ) (at : Place) (d : ℕ) → bracketed_surface (applied at surfaces) d ≡ bracketed (apply f ts) d
-      pub argument : (f : ℕ) (at : Place) (pieces : List Piece) →
-          argument_of (apply f ts) pieces ≡ argument_pieces (applied at surfaces) pieces
-      pub follow : (pieces : List Piece) → applied_of ts pieces ≡ applied_pieces surfaces pieces
-      pub held : (line : ℕ) → AllByRecursion (HeldUse readable) (terms_uses text line surfaces)
+      pub surfaces_of : (ts : TermTrees) → NamesOfAll ts → SurfaceTermTrees
+      surfaces_of no_terms n = no_surfaces
+      surfaces_of (more_terms t ts) n = more_surfaces (surface_of t n.0) (surfaces_of ts n.1)
 
-    abbrev pub surface_at : {t : TermTree} → ListingOfTerm t → List Piece
-    surface_at l = surface_pieces l.surface
+    -- it has as many arguments, and nests as deep
+    count_is : (ts : TermTrees) (n : NamesOfAll ts) → count_of_surfaces (surfaces_of ts n) ≡ count_of_terms ts
+    count_is no_terms n = refl
+    count_is (more_terms t ts) n = ap (λ k. 1 + k) (count_is ts n.1)
 
-    abbrev surfaces_at : {ts : TermTrees} → ListingOfTerms ts → List Piece
-    surfaces_at l = surfaces_pieces l.surfaces
-
-    -- a name and its arguments
-    abbrev application_at : {f : ℕ} {ts : TermTrees} → NameAt f × ListingOfTerms ts → List Piece
-    application_at x = surface_pieces (applied x.0.at x.1.surfaces)
-
-    application_part : (f : ℕ) (ts : TermTrees) → is_usable_at names f ≡ true → Part text (surfaces_at {ts = ts})
-        (arguments_text names ts) →
-        Part text (application_at {f = f} {ts = ts}) (name_text names f ++ applied_text ts (arguments_text names ts))
-    application_part f ts usable arguments =
-        made (beside (name_part f usable) (behind ts arguments)) refl (λ x. x)
-        (λ x. ap (λ ps. named x.0.at ∷ ps) (x.1.follow (surfaces_at x.1)))
-      where
-        behind : (us : TermTrees) → Part text (surfaces_at {ts = us}) (arguments_text names us) →
-            Part text (λ (l : ListingOfTerms us). applied_of us (surfaces_at l)) (applied_text us (arguments_text names us))
-        behind no_terms arguments = record {
-          runs = λ front occurs. ((arguments.runs front (codes "()" ++ occurs.0, occurs.1)).0, a_word (codes "()"));
-        }
-        behind (more_terms u us) arguments = arguments
-
-    argument_part : (t : TermTree) → Part text (surface_at {t = t}) (term_text names t) →
-        Part text (λ (l : ListingOfTerm t). argument_pieces l.surface (surface_at l)) (argument_text t (term_text names t))
-    argument_part t term = made (around t term) refl (λ l. l)
-        (λ l. l.argument (surface_at l))
-      where
-        around : (u : TermTree) → Part text (surface_at {t = u}) (term_text names u) →
-            Part text (λ (l : ListingOfTerm u). argument_of u (surface_at l)) (argument_text u (term_text names u))
-        around (signal s) p = p
-        around (apply f no_terms) p = p
-        around (apply f (more_terms v vs)) p =
-            made (beside (beside (exactly (codes "(")) p) (exactly (codes ")"))) refl (λ x. x.0.1) (λ x. refl)
+    bracketed_as : (t : TermTree) (n : NamesOf t) (d : ℕ) → bracketed_surface (surface_of t n) d ≡ bracketed t d
+    bracketed_as (signal s) n d = refl
+    bracketed_as (apply f no_terms) n d = refl
+    bracketed_as (apply f (more_terms t ts)) n d = refl
 
     mutual
-      pub term_part : (t : TermTree) → term_fits names t ≡ true → reads_only readable t ≡ true →
-          Part text (surface_at {t = t}) (term_text names t)
-      term_part (signal s) fits reads =
-          let parts = and_parts (is_name names s Signal 0) (is_usable_at names s) fits in
-          made (name_part s parts.1) refl (λ n. record {
-            surface = bare n.at;
-            numbered_is = ap (option_map signal) (number_at s Signal 0 parts.0 n);
-            deep = refl;
-            shape = λ d. refl;
-            argument = λ pieces. refl;
-            held = λ line. (record { id = s; there = named_as s Signal 0 parts.0 n; asked = tt; read = λ h. reads }, tt);
-          }) (λ n. refl)
-      term_part (apply f ts) fits reads =
-          let parts = and_parts (is_name names f Function (count_of_terms ts) && is_usable_at names f) (terms_fit names ts) fits in
-          let name = and_parts (is_name names f Function (count_of_terms ts)) (is_usable_at names f) parts.0 in
-          made (application_part f ts name.1 (terms_part ts parts.1 reads)) refl (λ x. record {
-            surface = applied x.0.at x.1.surfaces;
-            numbered_is = ap (option_and_then (λ n. option_map (apply n) (numbered_terms names text x.1.surfaces)))
-                (number_at f Function (count_of_terms ts) name.0 x.0) ∙ ap (option_map (apply f)) x.1.numbered_are;
-            deep = x.1.deep;
-            shape = x.1.shape f x.0.at;
-            argument = x.1.argument f x.0.at;
-            held = λ line. (
-              subst (λ n. HeldUse readable (applied_use text line Function x.0.at n)) (sym x.1.count)
-                  (applied_held line Function f (count_of_terms ts) name.0 x.0),
-              x.1.held line,
-            );
-          }) (λ x. refl)
+      pub as_deep : (t : TermTree) (n : NamesOf t) → surface_brackets (surface_of t n) ≡ brackets t
+      as_deep (signal s) n = refl
+      as_deep (apply f ts) n = all_deep ts n.1
 
-      terms_part : (ts : TermTrees) → terms_fit names ts ≡ true → read_only readable ts ≡ true →
-          Part text (surfaces_at {ts = ts}) (arguments_text names ts)
-      terms_part no_terms fits reads = made nothing refl (λ u. record {
-        surfaces = no_surfaces;
-        numbered_are = refl;
-        deep = refl;
-        count = refl;
-        shape = λ f at d. refl;
-        argument = λ f at pieces. refl;
-        follow = λ pieces. refl;
-        held = λ line. tt;
-      }) (λ u. refl)
-      terms_part (more_terms t ts) fits reads =
-          let fit = and_parts (term_fits names t) (terms_fit names ts) fits in
-          let read = and_parts (reads_only readable t) (read_only readable ts) reads in
-          made (beside (beside (exactly (codes " ")) (argument_part t (term_part t fit.0 read.0))) (terms_part ts fit.1 read.1)) refl (λ x. record {
-            surfaces = more_surfaces x.0.1.surface x.1.surfaces;
-            numbered_are = ap (option_and_then (λ tree. option_map (more_terms tree) (numbered_terms names text x.1.surfaces)))
-                x.0.1.numbered_is ∙ ap (option_map (more_terms t)) x.1.numbered_are;
-            deep = λ i. max ((ap (bracketed_surface x.0.1.surface) x.0.1.deep ∙ x.0.1.shape (brackets t)) i) (x.1.deep i);
-            count = ap (λ n. 1 + n) x.1.count;
-            shape = λ f at d. refl;
-            argument = λ f at pieces. refl;
-            follow = λ pieces. refl;
-            held = λ line. each_joined (HeldUse readable) (term_uses text line x.0.1.surface) (terms_uses text line x.1.surfaces)
-                (x.0.1.held line) (x.1.held line);
-          }) (λ x. refl)
+      all_deep : (ts : TermTrees) (n : NamesOfAll ts) → surfaces_brackets (surfaces_of ts n) ≡ brackets_of_arguments ts
+      all_deep no_terms n = refl
+      all_deep (more_terms t ts) n =
+          λ i. max ((ap (bracketed_surface (surface_of t n.0)) (as_deep t n.0) ∙ bracketed_as t n.0 (brackets t)) i) (all_deep ts n.1 i)
+
+    -- it has the numbers of the term
+    mutual
+      pub term_numbered : (t : TermTree) (n : NamesOf t) → term_fits names t ≡ true → numbered_term names text (surface_of t n) ≡ Some t
+      term_numbered (signal s) n fits = simp (number_at s Signal 0 (search rules) n)
+      term_numbered (apply f ts) n fits =
+          simp (number_at f Function (count_of_terms ts) (search rules) n.0, terms_numbered ts n.1 (search rules))
+
+      terms_numbered : (ts : TermTrees) (n : NamesOfAll ts) → terms_fit names ts ≡ true →
+          numbered_terms names text (surfaces_of ts n) ≡ Some ts
+      terms_numbered no_terms n fits = refl
+      terms_numbered (more_terms t ts) n fits = simp (term_numbered t n.0 (search rules), terms_numbered ts n.1 (search rules))
+
+    -- its uses are held
+    mutual
+      pub term_held : (t : TermTree) (n : NamesOf t) → term_fits names t ≡ true → reads_only readable t ≡ true → (line : ℕ) →
+          AllByRecursion (HeldUse readable) (term_uses text line (surface_of t n))
+      term_held (signal s) n fits reads line =
+          (record { id = s; there = named_as s Signal 0 (search rules) n; asked = tt; read = λ h. reads }, tt)
+      term_held (apply f ts) n fits reads line = (
+        applied_held line Function f _ (ap (is_name names f Function) (count_is ts n.1) ∙ (search rules)) n.0,
+        terms_held ts n.1 (search rules) reads line,
+      )
+
+      terms_held : (ts : TermTrees) (n : NamesOfAll ts) → terms_fit names ts ≡ true → read_only readable ts ≡ true → (line : ℕ) →
+          AllByRecursion (HeldUse readable) (terms_uses text line (surfaces_of ts n))
+      terms_held no_terms n fits reads line = tt
+      terms_held (more_terms t ts) n fits reads line =
+          each_joined (HeldUse readable) (term_uses text line (surface_of t n.0)) (terms_uses text line (surfaces_of ts n.1))
+          (term_held t n.0 (search rules) (search rules) line) (terms_held ts n.1 (search rules) (search rules) line)
+
+    -- it stands where the term is spelled
+    abbrev Term : TermTree → List ℕ → Type 0
+    Term t bytes = Part text (λ (n : NamesOf t). surface_pieces (surface_of t n)) bytes
+
+    abbrev Terms : TermTrees → List ℕ → Type 0
+    Terms ts bytes = Part text (λ (n : NamesOfAll ts). surfaces_pieces (surfaces_of ts n)) bytes
+
+    application_part : (f : ℕ) (ts : TermTrees) → is_usable_at names f ≡ true → Terms ts (arguments_text names ts) →
+        Term (apply f ts) (name_text names f ++ applied_text ts (arguments_text names ts))
+    application_part f no_terms usable arguments =
+        made (beside (name_part f usable) (exactly (codes "()"))) refl (λ x. (x.0, tt)) (λ x. refl)
+    application_part f (more_terms t ts) usable arguments = beside (name_part f usable) arguments
+
+    argument_part : (t : TermTree) → Term t (term_text names t) →
+        Part text (λ (n : NamesOf t). argument_pieces (surface_of t n) (surface_pieces (surface_of t n))) (argument_text t (term_text names t))
+    argument_part (signal s) term = term
+    argument_part (apply f no_terms) term = term
+    argument_part (apply f (more_terms t ts)) term =
+        made (beside (beside (exactly (codes "(")) term) (exactly (codes ")"))) refl (λ x. x.0.1) (λ x. refl)
+
+    mutual
+      pub term_part : (t : TermTree) → term_fits names t ≡ true → Term t (term_text names t)
+      term_part (signal s) fits = name_part s (search rules)
+      term_part (apply f ts) fits = application_part f ts (search rules) (terms_part ts (search rules))
+
+      terms_part : (ts : TermTrees) → terms_fit names ts ≡ true → Terms ts (arguments_text names ts)
+      terms_part no_terms fits = nothing
+      terms_part (more_terms t ts) fits =
+          made (beside (beside (exactly (codes " ")) (argument_part t (term_part t (search rules)))) (terms_part ts (search rules))) refl
+          (λ x. (x.0.1, x.1)) (λ x. refl)
 
     -- ---- tests
 
@@ -272,18 +248,16 @@ module _ (names : List NameEntry) where
         is_question names q ≡ false → Reads tests (probe_with q ts) (probe_text names (probe_with q ts))
     application_test q ts fits fit usable flat reads other =
         let probe = probe_with q ts in
-        made (application_part q ts usable (terms_part ts fit reads))
-        (sym (ap (λ b. cond b (question_text names probe ts) (application_text names probe)) other)) (λ x. record {
-          line = applied x.0.at x.1.surfaces;
-          numbered_is = ap (option_and_then (λ n. option_map (probe_with n) (numbered_terms names text x.1.surfaces)))
-              (number_at q Predicate (count_of_terms ts) fits x.0) ∙ ap (option_map (probe_with q)) x.1.numbered_are;
-          within = ap (λ n. nat_le n deepest) x.1.deep ∙ flat;
+        made (application_part q ts usable (terms_part ts fit))
+        (sym (ap (λ b. cond b (question_text names probe ts) (application_text names probe)) other)) (λ n. record {
+          line = surface_of (apply q ts) n;
+          numbered_is = simp (number_at q Predicate (count_of_terms ts) fits n.0, terms_numbered ts n.1 fit);
+          within = ap (λ k. nat_le k deepest) (all_deep ts n.1) ∙ flat;
           held = λ line. (
-            subst (λ n. HeldUse readable (applied_use text line Predicate x.0.at n)) (sym x.1.count)
-                (applied_held line Predicate q (count_of_terms ts) fits x.0),
-            x.1.held line,
+            applied_held line Predicate q _ (ap (is_name names q Predicate) (count_is ts n.1) ∙ fits) n.0,
+            terms_held ts n.1 fit reads line,
           );
-        }) (λ x. refl)
+        }) (λ n. refl)
 
     -- the name of a Boolean signal
     signal_test : (q : ℕ) (ts : TermTrees) → is_name names q Predicate (count_of_terms ts) ≡ true → terms_fit names ts ≡ true →
@@ -301,10 +275,7 @@ module _ (names : List NameEntry) where
         made (name_part s name.1)
         (sym (ap (λ b. cond b (name_text names s) (application_text names (probe_with q arguments))) asks)) (λ n. record {
           line = bare n.at;
-          numbered_is =
-              ap (option_and_then (λ k. option_map (λ m. probe_with m (more_terms (signal k) no_terms)) (number_of names question)))
-              (number_at s Signal 0 name.0 n)
-              ∙ ap (option_map (λ m. probe_with m arguments)) (its_number distinct q question_entry asked);
+          numbered_is = simp (number_at s Signal 0 name.0 n, its_number distinct q question_entry asked);
           within = refl;
           held = λ line. (record { id = s; there = named_as s Signal 0 name.0 n; asked = ((q, asked), tt); read = λ h. read.0 }, tt);
         }) (λ n. refl)
