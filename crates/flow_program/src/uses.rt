@@ -8,7 +8,7 @@ ghost use Rattle.program_listing.specs.Listing.{count_of_surfaces};
 ghost use Rattle.program_listing.specs.internal.NamesStand.{listed_line_stands, placed_line_stands, left_line_stands, window_line_stands};
 ghost use Rattle.program_listing.specs.internal.NamesStand.{node_line_stands};
 ghost use Rattle.program_listing.specs.Listing.{surface_tree, surface_trees, update_line, listed_line, placed_line, window_line, node_line};
-ghost use Rattle.program_listing.specs.Listing.{listing_tree};
+ghost use Rattle.program_listing.specs.Listing.{listing_tree, declared};
 ghost use Rattle.program_listing.specs.internal.NamesStand.{ListingStands};
 ghost use Rattle.program_listing.specs.ListingTree.{UpdateLine, ListedLine, PlacedLine, WindowLine, NodeLine};
 ghost use Rattle.flow_program.specs.Uses.{ProgramUse, signal_use, read_use, tested_use, applied_use, term_uses, terms_uses, test_uses};
@@ -387,6 +387,25 @@ fn add_declared<'a>(
     Ok(())
 }
 
+/// Adds the signals that the lines of a text declare.
+fn add_all_declared<'a>(
+    list: &mut Vec<SpelledUse<'a>>,
+    text: &'a [u8],
+    listing: &ProgramSyntax,
+) -> Result<(), NoMemory>
+    requires stands { ListingStands text.now (listing_tree listing.now) }
+    requires few { 2 + length (declared (listing_tree listing.now)) < 2 ^ 32 }
+    ensures { OnOk result (map use_view list.new.items
+        ≡ map use_view list.old.items ++ declared_uses text.now 2 (declared (listing_tree listing.now))) }
+{
+    let cells = 2 + listing.inputs.len() as u32;
+    let outputs = cells + listing.cells.len() as u32;
+    add_declared(list, text, 2, &listing.inputs)?;
+    add_declared(list, text, cells, &listing.cells)?;
+    add_declared(list, text, outputs, &listing.outputs)?;
+    Ok(())
+}
+
 /// All uses of the lines of a text. An `Err` says that memory ran out.
 pub(crate) fn all_uses<'a>(
     alloc: Global,
@@ -401,11 +420,7 @@ pub(crate) fn all_uses<'a>(
         map use_view list.items ≡ uses_of text.now (listing_tree listing.now)) }
 {
     let mut list = Vec::new(alloc);
-    let cells = 2 + listing.inputs.len() as u32;
-    let outputs = cells + listing.cells.len() as u32;
-    add_declared(&mut list, text, 2, &listing.inputs)?;
-    add_declared(&mut list, text, cells, &listing.cells)?;
-    add_declared(&mut list, text, outputs, &listing.outputs)?;
+    add_all_declared(&mut list, text, listing)?;
     add_lines(&mut list, text, first_window(listing), &listing.windows)?;
     add_lines(&mut list, text, first_node(listing), &listing.nodes)?;
     Ok(list)
