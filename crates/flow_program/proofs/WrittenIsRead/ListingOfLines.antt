@@ -419,7 +419,7 @@ module _ (names : List NameEntry) (distinct : AreDistinct names) (readable : Lis
       pub held : (line : ℕ) → Held (nodes_uses text line lines)
 
     pub nodes_part : (first : ℕ) (xs : List NodeTree) → first + length xs ≤ 65536 → list_all (node_is_writable names) xs ≡ true →
-        ((i : ℕ) (x : NodeTree) → slice_get xs i ≡ Some x → KeptNode (first + i) x) →
+        ((k i : ℕ) (x : NodeTree) → k ≡ first + i → slice_get xs i ≡ Some x → KeptNode k x) →
         Part text (λ (l : ListingOfNodes first xs). flat_map ended_pieces (node_lines first l.lines)) (nodes_text names controlled first xs)
     nodes_part first [] few writable keep =
         made nothing refl (λ u. record {
@@ -433,9 +433,8 @@ module _ (names : List NameEntry) (distinct : AreDistinct names) (readable : Lis
         }) (λ u. refl)
     nodes_part first (x ∷ xs) few writable keep =
         let write = and_parts (node_is_writable names x) (list_all (node_is_writable names) xs) writable in
-        let place : first + 0 ≡ first = omega arith in
-        made (beside (node_part first (omega (arith, few)) x write.0 (subst (λ k. KeptNode k x) place (keep 0 x refl)))
-        (nodes_part (suc first) xs (omega (arith, few)) write.1 (λ i y is. subst (λ k. KeptNode k y) (next i) (keep (suc i) y is)))) refl (λ y.
+        made (beside (node_part first (omega (arith, few)) x write.0 (keep first 0 x (omega arith) refl))
+        (nodes_part (suc first) xs (omega (arith, few)) write.1 (λ k i y place is. keep k (suc i) y (omega (arith, place)) is))) refl (λ y.
         let head = y.0 in
         let rest = y.1 in
         let parts = and_parts _ _ head.within in
@@ -451,9 +450,6 @@ module _ (names : List NameEntry) (distinct : AreDistinct names) (readable : Lis
           held = λ line. joined_held (node_uses text line head.line) (nodes_uses text (suc line) rest.lines)
               (head.held line) (rest.held (suc line));
         }) (λ y. refl)
-      where
-        next : (i : ℕ) → first + suc i ≡ suc first + i
-        next i = omega arith
 
   -- ---- declarations
 

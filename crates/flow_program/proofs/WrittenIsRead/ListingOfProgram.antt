@@ -27,7 +27,7 @@ use Rattle.program_tree.specs.Writable.{most_states}
 use Rattle.flow_program.specs.ProgramText.{ProgramText}
 use Rattle.program_listing.specs.LineText.{LineTree, head_line, end_line, input, cell, output, window as window_tree_line, ended_pieces}
 use Rattle.program_listing.specs.LineText.{line_is_within, node_lines, state_lines, listing_lines, Stand}
-use Rattle.program_listing.specs.Listing.{name_bytes, declared_entry, declared, PlacedLine, WindowLine, ListingTree, left_step}
+use Rattle.program_listing.specs.Listing.{name_bytes, declared_entry, declared, IsListing, PlacedLine, WindowLine, ListingTree, left_step}
 use Rattle.flow_program.specs.Uses.{ProgramUse, question_entry, entries_of_use, names_after, declared_uses, window_uses, windows_uses, nodes_uses}
 use Rattle.flow_program.specs.Uses.{first_declaration, first_window, first_node, first_state, uses_of}
 use Rattle.flow_program.specs.Rules.{first_place, first_line, breaks_order, goes_nowhere, is_nowhere, breaks_updates, place_in}
@@ -35,7 +35,7 @@ use Rattle.flow_program.specs.Rules.{is_cell_within, is_equality_within, right_f
 use Rattle.flow_program.specs.Rules.{breaks_window, cell_texts, readable_of, controlled_of}
 use Rattle.flow_program.specs.Rules.{is_unknown, is_unlike, at_line, at_use, over, first_there, line_fault, use_fault, limit_fault}
 use Rattle.flow_program.specs.Rules.{fault_of}
-use Rattle.std.proofs.lemmas.Option.{same_Some, slice_get-map}
+use Rattle.std.proofs.lemmas.Option.{none-some, same_Some, slice_get-map}
 use Rattle.sequence.proofs.Booleans.{eqb_self}
 use Rattle.sequence.proofs.Places.{slice_get_grown, slice_get_some}
 use Rattle.flow_program.proofs.RuleLemmas.{texts_are as entries_are}
@@ -64,12 +64,13 @@ use Rattle.flow_program.proofs.WrittenIsRead.ListingOfLines.{ListingOfNodes, nod
 use Rattle.flow_program.proofs.WrittenIsRead.ListingOfTerms.{PartOf}
 use Rattle.flow_program.proofs.UseLemmas.{declared_append}
 use Rattle.flow_program.proofs.WrittenIsRead.ListingOfLines.{states_part, states_within, states_numbered, none_place}
-use Rattle.flow_program.proofs.NumberLemmas.{Parts, parts_of, small_same, there_parts, there_at, numbered_texts}
+use Rattle.flow_program.proofs.NumberLemmas.{Parts, parts_of, small_same, there_at, numbered_texts}
 use Rattle.flow_program.proofs.ResolvedProgram.{map_both}
 use Rattle.flow_program.specs.internal.Numbering.{numbered, numbered_test, numbered_left}
 use Rattle.flow_program.specs.internal.Numbering.{numbered_window, numbered_node}
 use Rattle.sequence.specs.Options.{all_there}
-use Rattle.sequence.proofs.Gathered.{length-all_there, all_there_next}
+use Rattle.sequence.proofs.Gathered.{length-all_there}
+use Rattle.sequence.proofs.Options.{some_mapped}
 use Rattle.std.proofs.lemmas.List.{length-map}
 use Rattle.tsl_terms.specs.Equality.{equality_in}
 use Rattle.tsl_terms.specs.Congruence.{IsEquality}
@@ -195,10 +196,14 @@ declared_apart names text ds ids are once i j m n is too same =
 both_there : {X Y : Type 0} (f : X → Option Y) (xs ys : List X) (as' bs : List Y) → all_there (map f xs) ≡ Some as' →
     all_there (map f ys) ≡ Some bs → all_there (map f (xs ++ ys)) ≡ Some (as' ++ bs)
 both_there f [] ys as' bs is too = too ∙ ap (λ zs. Some (zs ++ bs)) (same_Some [] as' is)
-both_there f (x ∷ xs) ys as' bs is too =
-    let parts = there_parts f x xs as' is in
-    all_there_next f x (xs ++ ys) parts.0 (parts.1 ++ bs) parts.2 (both_there f xs ys parts.1 bs parts.3 too)
-    ∙ ap (λ zs. Some (zs ++ bs)) parts.4
+both_there {Y = Y} f (x ∷ xs) ys as' bs is too = by (f x) is (λ cs e. both_there f xs ys cs bs e too) where
+  by : (o : Option Y) → all_there (o ∷ map f xs) ≡ Some as' →
+      ((cs : List Y) → all_there (map f xs) ≡ Some cs → all_there (map f (xs ++ ys)) ≡ Some (cs ++ bs)) →
+      all_there (o ∷ map f (xs ++ ys)) ≡ Some (as' ++ bs)
+  by None there rest = absurd (none-some as' there)
+  by (Some y) there rest =
+      let tail = some_mapped (λ zs. y ∷ zs) (all_there (map f xs)) as' there in
+      ap (option_map (λ zs. y ∷ zs)) (rest tail.0 tail.1) ∙ ap (λ zs. Some (zs ++ bs)) tail.2
 
 -- what is made of eight lists one after another
 eight_joined : {X Y : Type 0} (f : X → List Y) (a b c d e g h k : List X) →
@@ -209,12 +214,7 @@ eight_joined f a b c d e g h k = simp (flat_map-append, append_assoc)
 -- the listing of a text that spells a program
 pub record ListingOfProgram (text : List ℕ) (names : List NameEntry) (p : ProgramTree) : Type 0 where
   pub listing : ListingTree
-  pub end : ℕ
-  pub stands : Stand (flat_map ended_pieces (listing_lines listing)) (record { at = 0; bytes = text }) (record { at = end; bytes = [] })
-  pub within : IsTrue (list_all line_is_within (listing_lines listing))
-  pub once : AreDistinct (map (declared_entry text) (declared listing))
-  pub has_node : 0 < length listing.nodes
-  pub has_state : 0 < length listing.states
+  pub is_listing : IsListing text listing
   pub numbers : Numbered names text listing p
   pub held_names : AllByRecursion (InNames names) (flat_map entries_of_use (uses_of text listing))
   pub no_fault : (given : List NameEntry) → GoOnFrom given names → fault_of text given listing ≡ None
@@ -223,27 +223,21 @@ module _ (text : List ℕ) (names : List NameEntry) (distinct : AreDistinct name
   abbrev readable : List ℕ
   readable = p.inputs ++ p.cells
 
-  inputs_fit : list_all (signal_fits names) p.inputs ≡ true
-  inputs_fit = (list_all_parts (signal_fits names) p.inputs (p.cells ++ p.outputs) h.is_writable.signals).0
+  abbrev Fit : List ℕ → Type 0
+  Fit ids = list_all (signal_fits names) ids ≡ true
 
-  controlled_fit : list_all (signal_fits names) (p.cells ++ p.outputs) ≡ true
-  controlled_fit = (list_all_parts (signal_fits names) p.inputs (p.cells ++ p.outputs) h.is_writable.signals).1
+  signals_fit : Fit p.inputs × Fit (p.cells ++ p.outputs)
+  signals_fit = list_all_parts (signal_fits names) p.inputs (p.cells ++ p.outputs) h.is_writable.signals
 
-  cells_fit : list_all (signal_fits names) p.cells ≡ true
-  cells_fit = (list_all_parts (signal_fits names) p.cells p.outputs controlled_fit).0
+  controlled_fit : Fit p.cells × Fit p.outputs
+  controlled_fit = list_all_parts (signal_fits names) p.cells p.outputs signals_fit.1
 
-  outputs_fit : list_all (signal_fits names) p.outputs ≡ true
-  outputs_fit = (list_all_parts (signal_fits names) p.cells p.outputs controlled_fit).1
-
-  kept_nodes : (i : ℕ) (x : NodeTree) → slice_get p.nodes i ≡ Some x →
-      KeptNode names distinct readable text (p.cells ++ p.outputs) controlled_fit (length p.states) h.is_writable.few_states (0 + i) x
-  kept_nodes i (branch t l r) is =
-      let place : i ≡ 0 + i = omega arith in
-      let fits = h.is_program.branches_fit i l r t is in
-      (subst (λ k. l < k) place fits.0, subst (λ k. r < k) place fits.1, fits.2)
-  kept_nodes i (assign ts go) is =
-      let fits = h.is_program.assignments_fit i go ts is in
-      (fits.0 ∙ sym (length-append p.cells p.outputs), fits.1, fits.2)
+  kept_nodes : (k i : ℕ) (x : NodeTree) → k ≡ 0 + i → slice_get p.nodes i ≡ Some x →
+      KeptNode names distinct readable text (p.cells ++ p.outputs) signals_fit.1 (length p.states) h.is_writable.few_states k x
+  kept_nodes k i (branch t l r) place is =
+      let fits = h.is_program.branches_fit i l r t is in (omega (arith, fits.0, place), omega (arith, fits.1, place), fits.2)
+  kept_nodes k i (assign ts go) place is =
+      let fits = h.is_program.assignments_fit i go ts is in (fits.0 ∙ sym (length-append p.cells p.outputs), fits.1, fits.2)
 
   -- the lines of the program
   abbrev Declared : (Name → LineTree) → List ℕ → Type 0
@@ -254,7 +248,7 @@ module _ (text : List ℕ) (names : List NameEntry) (distinct : AreDistinct name
     cells : Declared cell p.cells
     outputs : Declared output p.outputs
     windows : PartOf names readable (all_windows names distinct readable text) p.windows
-    nodes : ListingOfNodes names distinct readable text (p.cells ++ p.outputs) controlled_fit (length p.states) h.is_writable.few_states 0
+    nodes : ListingOfNodes names distinct readable text (p.cells ++ p.outputs) signals_fit.1 (length p.states) h.is_writable.few_states 0
         p.nodes
 
   abbrev listing_at : Lines → ListingTree
@@ -271,10 +265,10 @@ module _ (text : List ℕ) (names : List NameEntry) (distinct : AreDistinct name
   lines_part =
       let declared = declared_part names distinct readable text in
       made (beside (beside (beside (beside (beside (beside (beside (beside (exactly (codes "tslprogram 1")) (exactly (codes "\n")))
-      (declared (codes "input ") input (λ n. refl) (λ n. refl) p.inputs inputs_fit)) (declared (codes "cell ") cell (λ n. refl) (λ n. refl) p.cells cells_fit))
-      (declared (codes "output ") output (λ n. refl) (λ n. refl) p.outputs outputs_fit))
+      (declared (codes "input ") input (λ n. refl) (λ n. refl) p.inputs signals_fit.0)) (declared (codes "cell ") cell (λ n. refl) (λ n. refl) p.cells controlled_fit.0))
+      (declared (codes "output ") output (λ n. refl) (λ n. refl) p.outputs controlled_fit.1))
       (windows_part names distinct readable text p.cells p.windows h.is_writable.windows h.is_program.windows_fit))
-      (nodes_part names distinct readable text (p.cells ++ p.outputs) controlled_fit (length p.states) h.is_writable.few_states 0 p.nodes
+      (nodes_part names distinct readable text (p.cells ++ p.outputs) signals_fit.1 (length p.states) h.is_writable.few_states 0 p.nodes
       (omega (arith, h.is_writable.few_nodes)) h.is_writable.nodes kept_nodes)) (states_part 0 p.states))
       (beside (exactly (codes "end")) (exactly (codes "\n")))) refl
       (λ x. record {
@@ -314,28 +308,14 @@ module _ (text : List ℕ) (names : List NameEntry) (distinct : AreDistinct name
   controlled_are = sym (numbered_texts names text (lines.cells.line ++ lines.outputs.line) (p.cells ++ p.outputs) (both_there
       (numbered names text) lines.cells.line lines.outputs.line p.cells p.outputs lines.cells.numbered_is lines.outputs.numbered_is))
 
-  starts_below : (i m : ℕ) → slice_get p.states i ≡ Some m → m < length p.nodes
-  starts_below i m is = h.is_program.states_fit.1 i m is
-
   starts_small : (i m : ℕ) → slice_get p.states i ≡ Some m → m < 65536
-  starts_small i m is = omega (arith, starts_below i m is, h.is_writable.few_nodes)
+  starts_small i m is = omega (arith, h.is_program.states_fit.1 i m is, h.is_writable.few_nodes)
 
   held : AllByRecursion (HeldUse names readable) (uses_of text listing)
   held =
       let joined = each_joined (HeldUse names readable) in
-      let cells_at = first_declaration + length lines.inputs.line in
-      let outputs_at = first_declaration + length (lines.inputs.line ++ lines.cells.line) in
-      let declared_held = λ (line : ℕ) (xs ys : List Name) (first : AllByRecursion (HeldUse names readable) (declared_uses text line xs))
-      (second : AllByRecursion (HeldUse names readable) (declared_uses text (line + length xs) ys)).
-      subst (AllByRecursion (HeldUse names readable)) (sym (declared_append text line xs ys)) (joined (declared_uses text line xs)
-      (declared_uses text (line + length xs) ys) first second) in
-      joined (declared_uses text first_declaration (declared listing) ++ windows_uses text (first_window listing) lines.windows.line)
-      (nodes_uses text (first_node listing) lines.nodes.lines)
-      (joined (declared_uses text first_declaration (declared listing)) (windows_uses text (first_window listing) lines.windows.line)
-      (declared_held first_declaration (lines.inputs.line ++ lines.cells.line) lines.outputs.line (declared_held first_declaration
-      lines.inputs.line lines.cells.line (lines.inputs.held first_declaration) (lines.cells.held cells_at)) (lines.outputs.held outputs_at))
-      (lines.windows.held (first_window listing)))
-      (lines.nodes.held (first_node listing))
+      simp declared_append (joined _ _ (joined _ _ (joined _ _ (joined _ _ (lines.inputs.held _) (lines.cells.held _))
+      (lines.outputs.held _)) (lines.windows.held _)) (lines.nodes.held _))
 
   readable_are : readable_of text listing ≡ map (name_text names) readable
   readable_are = numbered_texts names text (lines.inputs.line ++ lines.cells.line) readable readable_numbers
@@ -349,8 +329,7 @@ module _ (text : List ℕ) (names : List NameEntry) (distinct : AreDistinct name
         let place = among_place readable held_use.id (held_use.read e) in
         let text_is : name_text names held_use.id ≡ u.name.text = ap (λ o. option_map_or (λ m. m.text) o []) held_use.there in
         let stands : slice_get (readable_of text listing) place.0 ≡ Some u.name.text =
-        ap (λ ts. slice_get ts place.0) readable_are ∙ slice_get-map (name_text names) readable place.0
-        ∙ ap (option_map (name_text names)) place.1 ∙ ap Some text_is in
+        simp (readable_are, slice_get-map, place.1, text_is) in
         let found = placed_some (readable_of text listing) place.0 u.name.text stands in
         (λ i. e i && not (is_some (found.1 i)))
 
@@ -368,7 +347,7 @@ module _ (text : List ℕ) (names : List NameEntry) (distinct : AreDistinct name
       subst (λ ts. first_place (breaks_updates text ts) 0 lines.nodes.lines ≡ None) controlled_are lines.nodes.updates in
       let starts : first_place (is_nowhere (length lines.nodes.lines)) 0 p.states ≡ None =
       none_place (is_nowhere (length lines.nodes.lines)) p.states (λ k i m is.
-      ap not (lt-ltb m (length lines.nodes.lines) (subst (λ n. m < n) (sym nodes_count) (starts_below i m is)))) 0 in
+      ap not (lt-ltb m (length lines.nodes.lines) (subst (λ n. m < n) (sym nodes_count) (h.is_program.states_fit.1 i m is)))) 0 in
       let windows : first_place (breaks_window text (cell_texts text listing)) 0 lines.windows.line ≡ None =
       none_place (breaks_window text (cell_texts text listing)) lines.windows.line (λ k i w is.
       windows_keep names readable text lines.cells.line p.cells lines.cells.numbered_is
@@ -397,11 +376,12 @@ module _ (text : List ℕ) (names : List NameEntry) (distinct : AreDistinct name
   pub listing_of_program : ListingOfProgram text names p
   listing_of_program = record {
     listing = listing;
-    end = length (program_text names p);
-    stands = subst (λ bytes. Stand (flat_map ended_pieces (listing_lines listing)) (record { at = 0; bytes = bytes })
+    is_listing = record {
+      end = length (program_text names p);
+      in_place = subst (λ bytes. Stand (flat_map ended_pieces (listing_lines listing)) (record { at = 0; bytes = bytes })
         (record { at = length (program_text names p); bytes = [] })) (append-nil (program_text names p) ∙ sym h.text)
         (found.1.stands []);
-    within = simp (
+      within = simp (
       list_all-append,
       lines.inputs.within,
       lines.cells.within,
@@ -410,13 +390,14 @@ module _ (text : List ℕ) (names : List NameEntry) (distinct : AreDistinct name
       lines.nodes.within,
       states_within 0 p.states (omega (arith, h.is_writable.few_states)) starts_small,
     );
-    once = declared_apart names text (declared listing) ((p.inputs ++ p.cells) ++ p.outputs)
+      declared_once = declared_apart names text (declared listing) ((p.inputs ++ p.cells) ++ p.outputs)
         (both_there (numbered names text) (lines.inputs.line ++ lines.cells.line) lines.outputs.line (p.inputs ++ p.cells) p.outputs
         readable_numbers lines.outputs.numbered_is) h.is_program.signals_distinct;
-    has_node = (let first = slice_get_some p.states 0 h.is_program.states_fit.0 in
-        let below = starts_below 0 first.0 first.1 in
+      has_node = (let first = slice_get_some p.states 0 h.is_program.states_fit.0 in
+        let below = h.is_program.states_fit.1 0 first.0 first.1 in
         omega (arith, below, nodes_count));
-    has_state = h.is_program.states_fit.0;
+      has_state = h.is_program.states_fit.0;
+    };
     numbers = record {
       inputs = lines.inputs.numbered_is;
       cells = lines.cells.numbered_is;
