@@ -1,10 +1,10 @@
 -- The names of a text know each use: its number names what it is used as.
-use Rattle.std.proofs.Common.{◌≡◌, ℕ, zero, suc, ◌==◌, Bool, true, false, not, ◌&&◌, ◌||◌, cond, List, [], ◌∷◌, ◌++◌, refl, ap, sym, subst, ◌∙◌}
+use Rattle.std.proofs.Common.{rules, ◌≡◌, ℕ, zero, suc, ◌==◌, Bool, true, false, not, ◌&&◌, ◌||◌, cond, List, [], ◌∷◌, ◌++◌, refl, ap, sym, subst, ◌∙◌}
 use Rattle.std.specs.Prelude.{Option, Some, None, slice_get, flat_map, option_and_then, IsTrue}
 use Rattle.std.specs.List.{list_all, AllByRecursion}
 use Rattle.std.specs.Option.{option_map_or}
 use Rattle.std.specs.Str.{bytes_eq}
-use Rattle.std.proofs.lemmas.Bool.{and_from, and_parts, not-false}
+use Rattle.std.proofs.lemmas.Bool.{and_from, and_parts, or_left, not-false}
 use Rattle.std.proofs.lemmas.List.Folds.{list_all-append}
 use Rattle.sequence.proofs.Each.{each_left, each_right, each_at, each_from_places}
 use Rattle.sequence.proofs.Passes.{passes_at, list_all_joined}
@@ -49,24 +49,19 @@ pub named_fit : (us : List ProgramUse) → IsTrue (list_all (λ u. is_usable u.n
 named_fit [] all = refl
 named_fit (u ∷ us) all =
     let parts = and_parts (is_usable u.name.text) (list_all (λ v. is_usable v.name.text) us) all in
-    and_from (name_fits u.name) (list_all name_fits (cond u.is_tested (question_entry ∷ []) [] ++ flat_map entries_of_use us))
-    (ap (λ b. b || ((bytes_eq u.name.text question && same_kind u.name.kind Predicate) && (u.name.arity == 1))) parts.0)
-    (by u.is_tested (named_fit us parts.1))
+    by u.is_tested (or_left (is_usable u.name.text) _ parts.0) (named_fit us parts.1)
   where
-    by : (t : Bool) → IsTrue (list_all name_fits (flat_map entries_of_use us)) →
-        IsTrue (list_all name_fits (cond t (question_entry ∷ []) [] ++ flat_map entries_of_use us))
-    by true h = h
-    by false h = h
+    by : (t : Bool) → name_fits u.name ≡ true → IsTrue (list_all name_fits (flat_map entries_of_use us)) →
+        IsTrue (list_all name_fits (u.name ∷ (cond t (question_entry ∷ []) [] ++ flat_map entries_of_use us)))
+    by true fits h = search rules
+    by false fits h = search rules
 
 -- what may be written and is `?` is the test of a signal
 question_like : (f : Name) → f.text ≡ question → IsTrue (name_fits f) →
     (same_kind f.kind Predicate ≡ true) × ((f.arity == 1) ≡ true)
 question_like f is fits =
     let never : is_usable f.text ≡ false = ap is_usable is in
-    let both : ((bytes_eq f.text question && same_kind f.kind Predicate) && (f.arity == 1)) ≡ true =
-    sym (ap (λ b. b || ((bytes_eq f.text question && same_kind f.kind Predicate) && (f.arity == 1))) never) ∙ fits in
-    let parts = and_parts (bytes_eq f.text question && same_kind f.kind Predicate) (f.arity == 1) both in
-    ((and_parts (bytes_eq f.text question) (same_kind f.kind Predicate) parts.0).1, parts.1)
+    (search rules, search rules)
 
 module _ (given : List Name) (distinct : AreDistinct given) (us : List ProgramUse) where
   abbrev all : List Name

@@ -1,6 +1,6 @@
 -- Names that grow by uses.
 use Rattle.std.proofs.Common.{◌≡◌, ℕ, ◌+◌, ◌≤◌, Bool, true, false, cond, List, [], ◌∷◌, ◌++◌, length, refl, ap, sym, subst, ◌∙◌}
-use Rattle.std.proofs.Common.{append_assoc, arith, length-append, ◌^◌, ◌<◌, get_or, drop, map}
+use Rattle.std.proofs.Common.{append_assoc, arith, rules, length-append, ◌^◌, ◌<◌, get_or, drop, map}
 use Rattle.std.specs.Prelude.{flat_map}
 use Rattle.flow_program.specs.declared.uses.SpelledUse.{SpelledUse}
 use Rattle.flow_program.specs.Uses.{entries_of_use, names_after}
@@ -13,6 +13,7 @@ use Rattle.std.proofs.lemmas.List.{append-nil, drop_more}
 use Rattle.std.proofs.lemmas.List.Folds.{list_all-append}
 use Rattle.std.proofs.Math.Seq.{take-append_seam}
 use Rattle.sequence.proofs.Places.{slice_get-behind}
+use Rattle.sequence.proofs.Passes.{list_all_push}
 use Rattle.tsl_terms.specs.Name.{Name, number_of, AreDistinct}
 use Rattle.tsl_terms.specs.Clashes.{added_unless_found, with_use, with_uses, first_uses}
 use Rattle.tsl_terms.specs.WellFormed.{name_fits}
@@ -57,9 +58,7 @@ are_first given us distinct =
 added_fits : (names : List Name) (u : Name) (found : Option ℕ) → IsTrue (list_all name_fits names) → IsTrue (name_fits u) →
     IsTrue (list_all name_fits (added_unless_found names u found))
 added_fits names u (Some number) fit fits = fit
-added_fits names u None fit fits =
-    list_all-append name_fits names (u ∷ [])
-    ∙ and_from (list_all name_fits names) (list_all name_fits (u ∷ [])) fit (and_from (name_fits u) true fits refl)
+added_fits names u None fit fits = list_all_push name_fits names u fit fits
 
 pub names_fit : (us names : List Name) → IsTrue (list_all name_fits names) → IsTrue (list_all name_fits us) →
     IsTrue (list_all name_fits (with_uses names us))
