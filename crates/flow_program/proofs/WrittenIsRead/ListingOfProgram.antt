@@ -57,7 +57,7 @@ use Rattle.tsl_terms.proofs.FirstUses.{first_of, FirstAt, first_at}
 use Rattle.flow_program.proofs.CellPlaces.{placed_some, second_once, AreListed, are_listed, within_alike, rise_alike}
 use Rattle.flow_program.proofs.EquatedLines.{are_equated, test_of_equality, in_order_alike, tests_within, lines_within}
 use Rattle.flow_program.proofs.WrittenIsRead.ListingOfTerms.{its_number, InNames}
-use Rattle.flow_program.proofs.WrittenIsRead.Runs.{Run, Part, exactly, beside, made}
+use Rattle.flow_program.proofs.WrittenIsRead.Runs.{at, Part, exactly, beside, made}
 use Rattle.flow_program.proofs.WrittenIsRead.ListingOfTerms.{HeldUse}
 use Rattle.flow_program.proofs.WrittenIsRead.ListingOfLines.{KeptWindow, kept_window, all_windows, windows_part, KeptNode}
 use Rattle.flow_program.proofs.WrittenIsRead.ListingOfLines.{ListingOfNodes, nodes_part, all_declared, declared_part}
@@ -281,8 +281,9 @@ module _ (text : List ℕ) (names : List NameEntry) (distinct : AreDistinct name
       (map output x.0.0.0.0.1.line) (map window_tree_line x.0.0.0.1.line) (node_lines 0 x.0.0.1.lines) (state_lines 0 p.states)
       (end_line ∷ []))
 
-  found : (l : Lines) × Run (flat_map ended_pieces (listing_lines (listing_at l))) [] (program_text names p)
-  found = lines_part.runs [] ([], h.text ∙ sym (append-nil (program_text names p)))
+  found : (l : Lines) × Stand (flat_map ended_pieces (listing_lines (listing_at l))) (at [] (program_text names p ++ []))
+      (at (program_text names p) [])
+  found = lines_part.found [] [] (h.text ∙ sym (append-nil (program_text names p)))
 
   abbrev lines : Lines
   lines = found.0
@@ -380,7 +381,7 @@ module _ (text : List ℕ) (names : List NameEntry) (distinct : AreDistinct name
       end = length (program_text names p);
       in_place = subst (λ bytes. Stand (flat_map ended_pieces (listing_lines listing)) (record { at = 0; bytes = bytes })
         (record { at = length (program_text names p); bytes = [] })) (append-nil (program_text names p) ∙ sym h.text)
-        (found.1.stands []);
+        found.1;
       within = simp (
       list_all-append,
       lines.inputs.within,

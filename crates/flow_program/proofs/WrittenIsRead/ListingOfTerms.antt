@@ -35,7 +35,7 @@ use Rattle.flow_program.specs.Uses.{ProgramUse, read_use, tested_use, applied_us
 use Rattle.flow_program.specs.Uses.{question_entry}
 use Rattle.flow_program.specs.internal.Numbering.{numbered, numbered_term, numbered_terms, numbered_test, probe_with}
 use Rattle.flow_program.proofs.ResolvedLines.{place_at}
-use Rattle.flow_program.proofs.WrittenIsRead.Runs.{Part, nothing, exactly, beside, made, name_at, a_word, a_name, bytes_at}
+use Rattle.flow_program.proofs.WrittenIsRead.Runs.{Part, nothing, exactly, beside, made, a_name}
 
 -- A kind of parts of lines: their numbers, their pieces, whether they keep the limits, and their uses on a line.
 pub record Kind (X Y : Type 0) : Type 0 where
@@ -113,12 +113,8 @@ module _ (names : List NameEntry) where
     named_at n = named n.at ∷ []
 
     pub name_part : (id : ℕ) → is_usable_at names id ≡ true → Part text (named_at {id = id}) (name_text names id)
-    name_part id usable = record {
-      runs = λ front occurs. (
-        record { at = name_at front (name_text names id); bytes_are = bytes_at text front (name_text names id) occurs },
-        a_name (name_text names id) (usable_text id usable),
-      );
-    }
+    name_part id usable =
+        a_name (name_text names id) (usable_text id usable) (λ n. n.at) (λ at is. (record { at = at; bytes_are = is }, refl))
 
     -- it is the name at this number, and has it
     named_as : (id : ℕ) (kind : NameKind) (arity : ℕ) → is_name names id kind arity ≡ true → (n : NameAt id) →
