@@ -1,24 +1,20 @@
 -- What the faults of a listing say of its text.
-use Rattle.std.proofs.Common.{◌≡◌, ℕ, Bool, true, false, List, [], ◌∷◌, refl, ap, sym, subst, ◌∙◌, length, cond}
-use Rattle.std.specs.Prelude.{Option, Some, None, find, flat_map, nat_lt, IsTrue}
+use Rattle.std.proofs.Common.{◌≡◌, ℕ, Bool, true, false, List, [], ◌∷◌, refl, ap, sym, subst, ◌∙◌, cond}
+use Rattle.std.specs.Prelude.{Option, Some, None, flat_map, IsTrue}
 use Rattle.std.specs.List.{list_all}
 use Rattle.std.specs.Option.{option_map_or}
 use Rattle.tsl_terms.specs.Name.{AreDistinct, Name as NameEntry}
-use Rattle.tsl_terms.specs.Clashes.{alike_in_kind, same_arity}
 use Rattle.tsl_terms.specs.WellFormed.{name_fits}
-use Rattle.program_listing.specs.declared.listing.Name.{Name}
 use Rattle.flow_program.specs.declared.reading.ProgramError.{ProgramError}
 use Rattle.flow_program.specs.declared.reading.ProgramError.TheVariants.{Form, Order, Target, Updates, Window, Unknown, Kind, Arity}
 use Rattle.flow_program.specs.declared.reading.ProgramError.TheVariants.{Windows, Nodes, States, NoMemory}
 use Rattle.program_tree.specs.ProgramTree.{ProgramTree}
-use Rattle.program_tree.specs.Writable.{most_windows, most_nodes, most_states}
 use Rattle.flow_program.specs.ProgramText.{ProgramText}
 use Rattle.program_listing.specs.Listing.{ListingTree, IsListing}
-use Rattle.flow_program.specs.Uses.{ProgramUse, uses_of, names_after, entries_of_use, first_window, first_node, first_state}
-use Rattle.flow_program.specs.Rules.{first_line, breaks_order, goes_nowhere, is_nowhere, breaks_updates, breaks_window, is_unknown}
-use Rattle.flow_program.specs.Rules.{is_unlike, cell_texts, readable_of, controlled_of, at_line, at_use, over, first_there, line_fault}
+use Rattle.flow_program.specs.Uses.{ProgramUse, uses_of, names_after, entries_of_use}
+use Rattle.flow_program.specs.Rules.{readable_of, at_line, at_use, first_there, line_fault}
 use Rattle.flow_program.specs.Rules.{use_fault, limit_fault, fault_of}
-use Rattle.flow_program.specs.Reading.{IsReading, HasProgramCause}
+use Rattle.flow_program.specs.Reading.{HasProgramCause}
 use Rattle.flow_program.specs.internal.Numbering.{Numbered}
 use Rattle.flow_program.proofs.UsesStand.{uses_usable}
 use Rattle.flow_program.proofs.KnownUses.{named_fit}

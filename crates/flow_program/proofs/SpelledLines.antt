@@ -1,10 +1,10 @@
 -- The bytes that the pieces of a line spell, from the bytes of its parts.
-use Rattle.std.proofs.Common.{◌≡◌, ℕ, suc, List, [], ◌∷◌, ◌++◌, map, flat_map, codes, decimal, refl, ap, sym, ◌∙◌, append_assoc}
+use Rattle.std.proofs.Common.{◌≡◌, ℕ, suc, List, [], ◌∷◌, ◌++◌, map, flat_map, codes, decimal, refl, ap, ◌∙◌, append_assoc}
 use Rattle.std.proofs.lemmas.Grind.{flat_map-append}
 use Rattle.std.proofs.lemmas.List.{append-nil}
 use Rattle.program_listing.specs.declared.listing.Name.{Name}
-use Rattle.program_listing.specs.LineText.{Piece, word, named, surface_pieces, LineTree, head_line, input, cell, output}
-use Rattle.program_listing.specs.LineText.{window, node, end_line}
+use Rattle.program_listing.specs.LineText.{Piece, word, named, surface_pieces, LineTree, input, cell, output}
+use Rattle.program_listing.specs.LineText.{window, node}
 use Rattle.program_listing.specs.LineText.{update_pieces, set_pieces, listed_pieces, placed_pieces, equated_pieces, left_pieces}
 use Rattle.program_listing.specs.LineText.{line_pieces, window_pieces}
 use Rattle.program_listing.specs.LineText.{ended_pieces}

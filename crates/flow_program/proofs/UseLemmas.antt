@@ -1,12 +1,11 @@
 -- How many uses surface terms have.
-use Rattle.std.proofs.Common.{◌≡◌, ℕ, zero, suc, ◌+◌, ◌<◌, ◌≤◌, List, [], ◌∷◌, ◌++◌, length, get_or, drop, map, ap, sym, ◌∙◌, arith}
+use Rattle.std.proofs.Common.{◌≡◌, ℕ, zero, suc, ◌+◌, ◌<◌, ◌≤◌, List, [], ◌∷◌, ◌++◌, length, get_or, drop, map, ap, ◌∙◌, arith}
 use Rattle.std.proofs.Common.{length-append}
 use Rattle.sequence.proofs.Lists.{left_at}
 use Rattle.program_listing.specs.declared.listing.Name.{Name}
-use Rattle.program_listing.specs.Listing.{SurfaceTermTree, bare, applied, SurfaceTermTrees, no_surfaces, more_surfaces, count_of_surfaces, WindowLine}
-use Rattle.program_listing.specs.Listing.{NodeLine, ListingTree, declared}
-use Rattle.flow_program.specs.Uses.{ProgramUse, signal_use, line_uses, uses_of, first_window, first_node, term_uses, terms_uses}
-use Rattle.flow_program.specs.Uses.{declared_uses, windows_uses, nodes_uses}
+use Rattle.program_listing.specs.Listing.{SurfaceTermTree, bare, applied, SurfaceTermTrees, no_surfaces, more_surfaces, count_of_surfaces}
+use Rattle.flow_program.specs.Uses.{ProgramUse, signal_use, line_uses, term_uses, terms_uses}
+use Rattle.flow_program.specs.Uses.{declared_uses}
 
 module _ (text : List ℕ) (line : ℕ) where
   term_is_one : (p : SurfaceTermTree) → 1 ≤ length (term_uses text line p)

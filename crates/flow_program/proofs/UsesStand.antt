@@ -1,22 +1,22 @@
 -- Each use of a name in a listing is that of a name that stands in the text, and the text has two bytes for each, and one for each
 -- line besides: one walk along the pieces of the lines.
-use Rattle.std.proofs.Common.{◌≡◌, ℕ, suc, ◌+◌, ◌*◌, ◌≤◌, true, false, not, ◌&&◌, List, [], ◌∷◌, ◌++◌, length, map, refl, ap, sym, subst}
+use Rattle.std.proofs.Common.{◌≡◌, ℕ, suc, ◌+◌, ◌*◌, ◌≤◌, true, List, [], ◌∷◌, ◌++◌, length, map, refl, ap, sym, subst}
 use Rattle.std.proofs.Common.{◌∙◌}
 use Rattle.std.proofs.Common.{arith, rules, length-append, append_assoc}
-use Rattle.std.specs.Prelude.{nat_le, codes, decimal, flat_map, Option, Some, None}
+use Rattle.std.specs.Prelude.{codes, decimal, flat_map, Option, Some, None}
 use Rattle.std.specs.List.{list_all, AllByRecursion}
 use Rattle.std.proofs.lemmas.Bool.{and_parts}
 use Rattle.std.proofs.lemmas.Grind.{flat_map-append}
 use Rattle.std.proofs.lemmas.List.{append-nil}
 use Rattle.sequence.proofs.Each.{each_joined, each_weaker}
 use Rattle.sequence.proofs.Passes.{list_all_parts, list_all_from_each}
-use Rattle.tsl_text.specs.Names.{is_usable, is_name_text, is_reserved}
+use Rattle.tsl_text.specs.Names.{is_usable}
 use Rattle.tsl_terms.specs.declared.names.NameKind.TheVariants.{Function, Predicate}
 use Rattle.program_listing.specs.declared.listing.Name.{Name}
 use Rattle.program_listing.specs.LineText.{Piece, word, named, argument_pieces, surface_pieces, surfaces_pieces, LineTree, input, cell}
 use Rattle.program_listing.specs.LineText.{output}
 use Rattle.program_listing.specs.LineText.{window, node, update_pieces, set_pieces, listed_pieces, placed_pieces, equated_pieces}
-use Rattle.program_listing.specs.LineText.{left_pieces, window_pieces}
+use Rattle.program_listing.specs.LineText.{left_pieces}
 use Rattle.program_listing.specs.LineText.{line_pieces, ended_pieces, node_lines, state_lines, listing_lines}
 use Rattle.program_listing.specs.Listing.{SurfaceTermTree, bare, applied, SurfaceTermTrees, no_surfaces, more_surfaces, count_of_surfaces, UpdateLine}
 use Rattle.program_listing.specs.Listing.{ListedLine, PlacedLine, WindowLine, NodeLine, branch_line, assignment_line, ListingTree}
@@ -27,7 +27,7 @@ use Rattle.program_listing.proofs.ListingFacts.{piece_stands, pieces_stand, piec
 use Rattle.flow_program.specs.Uses.{ProgramUse, read_use, tested_use, applied_use, signal_use, term_uses, terms_uses, test_uses}
 use Rattle.flow_program.specs.Uses.{update_uses}
 use Rattle.flow_program.specs.Uses.{listed_uses, placed_uses, left_uses, window_uses, node_uses, line_uses, declared_uses}
-use Rattle.flow_program.specs.Uses.{windows_uses, nodes_uses}
+use Rattle.flow_program.specs.Uses.{nodes_uses}
 use Rattle.flow_program.specs.Uses.{first_declaration, first_window, first_node, first_state, uses_of}
 use Rattle.flow_program.proofs.UseLemmas.{declared_append}
 

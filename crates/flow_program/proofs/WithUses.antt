@@ -1,16 +1,14 @@
 -- Names that grow by uses.
-use Rattle.std.proofs.Common.{◌≡◌, ℕ, ◌+◌, ◌≤◌, Bool, true, false, cond, List, [], ◌∷◌, ◌++◌, length, refl, ap, sym, subst, ◌∙◌}
-use Rattle.std.proofs.Common.{append_assoc, arith, rules, length-append, ◌^◌, ◌<◌, get_or, drop, map}
+use Rattle.std.proofs.Common.{◌≡◌, ℕ, ◌+◌, ◌≤◌, List, [], ◌∷◌, ◌++◌, length, refl, ap, sym, subst, ◌∙◌}
+use Rattle.std.proofs.Common.{append_assoc, arith, length-append, ◌^◌, ◌<◌, get_or, drop, map}
 use Rattle.std.specs.Prelude.{flat_map}
 use Rattle.flow_program.specs.declared.uses.SpelledUse.{SpelledUse}
 use Rattle.flow_program.specs.Uses.{entries_of_use, names_after}
 use Rattle.flow_program.specs.internal.UseView.{use_view}
 use Rattle.std.specs.Prelude.{Option, Some, None, IsSomeAnd, IsTrue}
 use Rattle.std.specs.List.{list_all}
-use Rattle.std.specs.Str.{bytes_eq}
-use Rattle.std.proofs.lemmas.Bool.{and_from, and_parts}
+use Rattle.std.proofs.lemmas.Bool.{and_parts}
 use Rattle.std.proofs.lemmas.List.{append-nil, drop_more}
-use Rattle.std.proofs.lemmas.List.Folds.{list_all-append}
 use Rattle.std.proofs.Math.Seq.{take-append_seam}
 use Rattle.sequence.proofs.Places.{slice_get-behind}
 use Rattle.sequence.proofs.Passes.{list_all_push}
@@ -18,7 +16,6 @@ use Rattle.tsl_terms.specs.Name.{Name, number_of, AreDistinct}
 use Rattle.tsl_terms.specs.Clashes.{added_unless_found, with_use, with_uses, first_uses}
 use Rattle.tsl_terms.specs.WellFormed.{name_fits}
 use Rattle.tsl_terms.proofs.NameLemmas.{absent_before}
-use Rattle.tsl_terms.proofs.FirstUses.{first_of}
 
 -- uses in two parts
 pub with_uses_append : (names xs ys : List Name) → with_uses names (xs ++ ys) ≡ with_uses (with_uses names xs) ys

@@ -1,5 +1,5 @@
 -- The lines of a program stand in the text that spells it.
-use Rattle.std.proofs.Common.{◌≡◌, ℕ, zero, suc, ◌+◌, ◌<◌, ◌≤◌, true, false, not, ◌&&◌, List, [], ◌∷◌, ◌++◌, refl, ap, sym, subst}
+use Rattle.std.proofs.Common.{◌≡◌, ℕ, suc, ◌+◌, ◌<◌, ◌≤◌, true, false, not, ◌&&◌, List, [], ◌∷◌, ◌++◌, refl, ap, sym}
 use Rattle.std.proofs.Common.{◌∙◌}
 use Rattle.std.proofs.Common.{arith, rules, Bool, cond, length, map, flat_map}
 use Rattle.std.proofs.Common.{append_assoc}
@@ -8,22 +8,22 @@ use Rattle.std.specs.List.{list_all, AllByRecursion}
 use Rattle.std.proofs.lemmas.Bool.{and_from, and_parts, not-true, lt-ltb, ltb-true, leb-true, eqb-true}
 use Rattle.std.proofs.lemmas.List.Folds.{list_all-map}
 use Rattle.sequence.proofs.Bytes.{bytes_same}
-use Rattle.sequence.proofs.Each.{each_joined, each_from_places, each_flat_map, each_weaker}
+use Rattle.sequence.proofs.Each.{each_joined, each_weaker}
 use Rattle.sequence.proofs.Gathered.{all_there_next}
 use Rattle.sequence.specs.Options.{all_there}
 use Rattle.tsl_terms.specs.declared.names.NameKind.TheVariants.{Signal}
 use Rattle.tsl_terms.specs.Name.{is_name, AreDistinct, Name as NameEntry}
 use Rattle.tsl_terms.specs.TermTree.{TermTree, ProbeTree}
-use Rattle.sequence.proofs.Passes.{list_all_parts, passes_at, each_from_list_all}
+use Rattle.sequence.proofs.Passes.{list_all_parts, each_from_list_all}
 use Rattle.sequence.specs.Numbers.{is_among}
 use Rattle.tsl_terms.specs.WindowTree.{WindowTree, ListedTree, EquatedTree, left_probes, window_probes}
-use Rattle.tsl_terms.specs.WellFormed.{is_usable_at, term_fits, probe_fits, brackets, brackets_of_arguments, deepest}
+use Rattle.tsl_terms.specs.WellFormed.{is_usable_at, term_fits, brackets, deepest}
 use Rattle.tsl_terms.specs.OnlyThese.{reads_only, read_only}
 use Rattle.term_text.specs.TermText.{name_text, probe_text, update_text}
 use Rattle.term_text.specs.WindowText.{left_text, listed_text, equated_text, window_text}
 use Rattle.program_listing.specs.declared.listing.Name.{Name}
 use Rattle.program_tree.specs.NodeTree.{NodeTree, branch, assign}
-use Rattle.program_tree.specs.Fits.{left_is_shaped, longest, rises, equalities_are_shaped, window_is_shaped, window_fits, window_reads_only}
+use Rattle.program_tree.specs.Fits.{left_is_shaped, longest, rises, window_fits}
 use Rattle.program_tree.specs.Fits.{are_in_order as stand_in_order}
 use Rattle.program_tree.specs.Writable.{signal_fits, term_is_writable}
 use Rattle.flow_program.specs.ProgramText.{declarations, updates_text, node_text, nodes_text, states_text}
@@ -32,7 +32,7 @@ use Rattle.program_listing.specs.LineText.{word, named, LineTree, window as wind
 use Rattle.program_listing.specs.LineText.{update_pieces, set_pieces, listed_pieces, placed_pieces, equated_pieces, left_pieces}
 use Rattle.program_listing.specs.LineText.{ended_pieces, is_short, is_shallow, listed_is_within, placed_is_within}
 use Rattle.program_listing.specs.LineText.{left_is_within, line_is_within, node_lines, state_lines}
-use Rattle.program_listing.specs.Listing.{SurfaceTermTree, name_bytes, surface_brackets, UpdateLine, ListedLine, PlacedLine, WindowLine, NodeLine}
+use Rattle.program_listing.specs.Listing.{SurfaceTermTree, name_bytes, UpdateLine, ListedLine, PlacedLine, WindowLine, NodeLine}
 use Rattle.program_listing.specs.Listing.{branch_line, assignment_line, left_step}
 use Rattle.flow_program.specs.Uses.{ProgramUse, signal_use, term_uses, update_uses, listed_uses, placed_uses, left_uses, window_uses}
 use Rattle.flow_program.specs.Uses.{node_uses, test_uses}

@@ -1,20 +1,19 @@
 -- A text that spells a program has a listing, and its lines break no rule.
-use Rattle.std.proofs.Common.{◌≡◌, ℕ, suc, ◌+◌, ◌<◌, ◌≤◌, Bool, true, false, not, ◌&&◌, cond, List, [], ◌∷◌, ◌++◌, refl}
+use Rattle.std.proofs.Common.{◌≡◌, ℕ, ◌+◌, ◌<◌, ◌≤◌, Bool, true, false, not, ◌&&◌, cond, List, [], ◌∷◌, ◌++◌, refl}
 use Rattle.std.proofs.Common.{ap, sym, subst, ◌∙◌, arith, length, map, flat_map}
 use Rattle.std.proofs.Common.{length-append}
-use Rattle.std.specs.Prelude.{Option, Some, None, option_map, option_and_then, nat_le, codes, slice_get, find, IsTrue}
+use Rattle.std.specs.Prelude.{Option, Some, None, option_map, nat_le, codes, slice_get, find}
 use Rattle.std.specs.List.{list_all, AllByRecursion}
 use Rattle.std.specs.Option.{is_some, option_map_or}
-use Rattle.std.proofs.lemmas.Bool.{and_from, and_parts, lt-ltb, le-ltb}
+use Rattle.std.proofs.lemmas.Bool.{and_from, lt-ltb, le-ltb}
 use Rattle.std.proofs.lemmas.List.{append-nil}
-use Rattle.std.proofs.lemmas.List.Folds.{list_all-map, list_all-append}
+use Rattle.std.proofs.lemmas.List.Folds.{list_all-append}
 use Rattle.sequence.proofs.Each.{each_joined, each_at, each_from_places, each_weaker, each_left, each_right, each_unmapped, each_flat_map}
 use Rattle.sequence.proofs.Numbers.{among_place}
 use Rattle.sequence.specs.Numbers.{IsDistinct}
-use Rattle.tsl_terms.specs.Name.{number_of, texts, AreDistinct, Name as NameEntry}
-use Rattle.tsl_terms.specs.Clashes.{with_use, with_uses, added_unless_found, alike_in_kind, same_arity}
+use Rattle.tsl_terms.specs.Name.{number_of, AreDistinct, Name as NameEntry}
+use Rattle.tsl_terms.specs.Clashes.{with_uses, added_unless_found, alike_in_kind, same_arity}
 use Rattle.tsl_terms.specs.WindowTree.{WindowTree, EquatedTree, right_alone}
-use Rattle.tsl_terms.specs.WellFormed.{is_usable_at}
 use Rattle.term_text.specs.TermText.{name_text}
 use Rattle.program_listing.specs.declared.listing.Name.{Name}
 use Rattle.flow_program.specs.declared.reading.ProgramError.{ProgramError}
@@ -26,32 +25,29 @@ use Rattle.flow_program.specs.ProgramText.{program_text}
 use Rattle.program_tree.specs.Writable.{most_states}
 use Rattle.flow_program.specs.ProgramText.{ProgramText}
 use Rattle.program_listing.specs.LineText.{LineTree, head_line, end_line, input, cell, output, window as window_tree_line, ended_pieces}
-use Rattle.program_listing.specs.LineText.{line_is_within, node_lines, state_lines, listing_lines, Stand}
+use Rattle.program_listing.specs.LineText.{node_lines, state_lines, listing_lines, Stand}
 use Rattle.program_listing.specs.Listing.{name_bytes, declared_entry, declared, IsListing, PlacedLine, WindowLine, ListingTree, left_step}
-use Rattle.flow_program.specs.Uses.{ProgramUse, question_entry, entries_of_use, names_after, declared_uses, window_uses, windows_uses, nodes_uses}
-use Rattle.flow_program.specs.Uses.{first_declaration, first_window, first_node, first_state, uses_of}
-use Rattle.flow_program.specs.Rules.{first_place, first_line, breaks_order, goes_nowhere, is_nowhere, breaks_updates, place_in}
+use Rattle.flow_program.specs.Uses.{ProgramUse, entries_of_use, names_after}
+use Rattle.flow_program.specs.Uses.{first_window, first_node, first_state, uses_of}
+use Rattle.flow_program.specs.Rules.{first_place, is_nowhere, breaks_updates, place_in}
 use Rattle.flow_program.specs.Rules.{is_cell_within, is_equality_within, right_fits}
 use Rattle.flow_program.specs.Rules.{breaks_window, cell_texts, readable_of, controlled_of}
-use Rattle.flow_program.specs.Rules.{is_unknown, is_unlike, at_line, at_use, over, first_there, line_fault, use_fault, limit_fault}
+use Rattle.flow_program.specs.Rules.{is_unknown, is_unlike, at_line, at_use, first_there, line_fault, use_fault, limit_fault}
 use Rattle.flow_program.specs.Rules.{fault_of}
 use Rattle.std.proofs.lemmas.Option.{none-some, same_Some, slice_get-map}
 use Rattle.sequence.proofs.Booleans.{eqb_self}
 use Rattle.sequence.proofs.Places.{slice_get_grown, slice_get_some}
-use Rattle.flow_program.proofs.RuleLemmas.{texts_are as entries_are}
 use Rattle.sequence.proofs.Finds.{find_none}
 use Rattle.sequence.proofs.Places.{slice_get_mapped}
-use Rattle.sequence.proofs.Passes.{list_all_joined, list_all_parts}
+use Rattle.sequence.proofs.Passes.{list_all_parts}
 use Rattle.sequence.proofs.Passes.{passes_at}
 use Rattle.tsl_terms.specs.declared.names.NameKind.{NameKind}
 use Rattle.tsl_terms.specs.declared.names.NameKind.TheVariants.{Signal, Function, Predicate}
-use Rattle.tsl_terms.specs.Name.{same_kind, is_name}
+use Rattle.tsl_terms.specs.Name.{same_kind}
 use Rattle.flow_program.specs.Reading.{GoOnFrom}
 use Rattle.flow_program.specs.internal.Numbering.{Numbered}
 use Rattle.std.proofs.lemmas.Grind.{flat_map-append}
-use Rattle.std.proofs.Common.{append_assoc, rules}
-use Rattle.std.specs.Prelude.{nat_lt}
-use Rattle.sequence.specs.Numbers.{is_among}
+use Rattle.std.proofs.Common.{append_assoc}
 use Rattle.flow_program.proofs.KnownUses.{named_is_first}
 use Rattle.tsl_terms.proofs.FirstUses.{first_of, FirstAt, first_at}
 use Rattle.flow_program.proofs.CellPlaces.{placed_some, second_once, AreListed, are_listed, within_alike, rise_alike}
@@ -65,7 +61,6 @@ use Rattle.flow_program.proofs.WrittenIsRead.ListingOfTerms.{PartOf}
 use Rattle.flow_program.proofs.UseLemmas.{declared_append}
 use Rattle.flow_program.proofs.WrittenIsRead.ListingOfLines.{states_part, states_within, states_numbered, none_place}
 use Rattle.flow_program.proofs.NumberLemmas.{Parts, parts_of, small_same, there_at, numbered_texts}
-use Rattle.flow_program.proofs.ResolvedProgram.{map_both}
 use Rattle.flow_program.specs.internal.Numbering.{numbered, numbered_test, numbered_left}
 use Rattle.flow_program.specs.internal.Numbering.{numbered_window, numbered_node}
 use Rattle.sequence.specs.Options.{all_there}
@@ -380,23 +375,23 @@ module _ (text : List ℕ) (names : List NameEntry) (distinct : AreDistinct name
     is_listing = record {
       end = length (program_text names p);
       in_place = subst (λ bytes. Stand (flat_map ended_pieces (listing_lines listing)) (record { at = 0; bytes = bytes })
-        (record { at = length (program_text names p); bytes = [] })) (append-nil (program_text names p) ∙ sym h.text)
-        found.1;
+          (record { at = length (program_text names p); bytes = [] })) (append-nil (program_text names p) ∙ sym h.text)
+          found.1;
       within = simp (
-      list_all-append,
-      lines.inputs.within,
-      lines.cells.within,
-      lines.outputs.within,
-      lines.windows.within,
-      lines.nodes.within,
-      states_within 0 p.states (omega (arith, h.is_writable.few_states)) starts_small,
-    );
+        list_all-append,
+        lines.inputs.within,
+        lines.cells.within,
+        lines.outputs.within,
+        lines.windows.within,
+        lines.nodes.within,
+        states_within 0 p.states (omega (arith, h.is_writable.few_states)) starts_small,
+      );
       declared_once = declared_apart names text (declared listing) ((p.inputs ++ p.cells) ++ p.outputs)
-        (both_there (numbered names text) (lines.inputs.line ++ lines.cells.line) lines.outputs.line (p.inputs ++ p.cells) p.outputs
-        readable_numbers lines.outputs.numbered_is) h.is_program.signals_distinct;
+          (both_there (numbered names text) (lines.inputs.line ++ lines.cells.line) lines.outputs.line (p.inputs ++ p.cells) p.outputs
+          readable_numbers lines.outputs.numbered_is) h.is_program.signals_distinct;
       has_node = (let first = slice_get_some p.states 0 h.is_program.states_fit.0 in
-        let below = h.is_program.states_fit.1 0 first.0 first.1 in
-        omega (arith, below, nodes_count));
+          let below = h.is_program.states_fit.1 0 first.0 first.1 in
+          omega (arith, below, nodes_count));
       has_state = h.is_program.states_fit.0;
     };
     numbers = record {

@@ -1,6 +1,6 @@
 -- Terms and tests of a program stand in the text that spells them, and each name that they use is one of the program's names.
-use Rattle.std.proofs.Common.{◌≡◌, ℕ, ◌+◌, ◌==◌, Bool, true, false, ◌&&◌, ◌||◌, cond, List, [], ◌∷◌, ◌++◌, refl, ap, sym, subst, ◌∙◌, inl, inr, if◌then◌else◌}
-use Rattle.std.specs.Prelude.{Option, Some, None, option_map, option_and_then, max, codes, slice_get, IsTrue}
+use Rattle.std.proofs.Common.{◌≡◌, ℕ, ◌+◌, ◌==◌, Bool, true, false, ◌&&◌, cond, List, [], ◌∷◌, ◌++◌, refl, ap, sym, ◌∙◌, inl, inr, if◌then◌else◌}
+use Rattle.std.specs.Prelude.{Option, Some, None, max, codes, slice_get, IsTrue}
 use Rattle.std.specs.List.{AllByRecursion}
 use Rattle.std.specs.Option.{option_map_or}
 use Rattle.std.specs.Str.{bytes_eq}
@@ -28,10 +28,10 @@ use Rattle.tsl_terms.specs.WellFormed.{deepest}
 use Rattle.std.specs.Prelude.{nat_le}
 use Rattle.std.proofs.Common.{rules}
 use Rattle.program_listing.specs.LineText.{is_shallow}
-use Rattle.program_listing.specs.LineText.{Piece, word, named, argument_pieces, applied_pieces, surface_pieces, surfaces_pieces}
+use Rattle.program_listing.specs.LineText.{Piece, named, argument_pieces, surface_pieces, surfaces_pieces}
 use Rattle.program_listing.specs.Listing.{SurfaceTermTree, bare, applied, SurfaceTermTrees, no_surfaces, more_surfaces, count_of_surfaces, name_bytes}
 use Rattle.program_listing.specs.Listing.{bracketed_surface, surface_brackets, surfaces_brackets}
-use Rattle.flow_program.specs.Uses.{ProgramUse, read_use, tested_use, applied_use, term_uses, terms_uses, test_uses}
+use Rattle.flow_program.specs.Uses.{ProgramUse, applied_use, term_uses, terms_uses, test_uses}
 use Rattle.flow_program.specs.Uses.{question_entry}
 use Rattle.flow_program.specs.internal.Numbering.{numbered, numbered_term, numbered_terms, numbered_test, probe_with}
 use Rattle.flow_program.proofs.ResolvedLines.{place_at}

@@ -1,10 +1,6 @@
 -- Pieces that spell bytes, wherever they stand.
 use Rattle.std.proofs.Common.{◌≡◌, ℕ, ◌-◌, true, List, [], ◌∷◌, ◌++◌, length, take, drop, refl, sym, ap, subst, ◌∙◌, arith}
-use Rattle.std.proofs.Common.{append_assoc, length-append, map}
-use Rattle.std.specs.Prelude.{Option, Some, flat_map}
-use Rattle.std.specs.List.{AllByRecursion}
-use Rattle.sequence.specs.Options.{all_there}
-use Rattle.sequence.proofs.Gathered.{all_there_next}
+use Rattle.std.proofs.Common.{append_assoc, length-append}
 use Rattle.std.proofs.lemmas.List.{append-nil}
 use Rattle.std.proofs.Math.Seq.{take-append_seam, drop-append_seam}
 use Rattle.tsl_text.specs.Names.{is_usable}

@@ -1,5 +1,5 @@
 -- What is written and what is left make the whole, and the names hold what is left.
-use Rattle.std.proofs.Common.{◌≡◌, ℕ, ◌++◌, map, length}
+use Rattle.std.proofs.Common.{◌≡◌, ◌++◌, map, length}
 use Rattle.std.specs.Prelude.{IsTrue}
 use Rattle.std.specs.List.{list_all}
 use Rattle.tsl_terms.specs.TermTree.{term_tree}
