@@ -79,7 +79,8 @@ module _ (given : List Name) (distinct : AreDistinct given) (us : List ProgramUs
 
   alike_first : (alike : Name → Name → Bool) (u : ProgramUse) (f : Name) → name_with (names_after given us) u.name.text ≡ Some f →
       is_unlike alike (names_after given us) u ≡ false → alike f u.name ≡ true
-  alike_first alike u f found like = not-false (alike f u.name) (sym (ap (λ o. option_map_or (λ n. not (alike n u.name)) o false) found) ∙ like)
+  alike_first alike u f found like =
+      not-false (alike f u.name) (sym (ap (λ o. option_map_or (λ n. not (alike n u.name)) o false) found) ∙ like)
 
   pub known_name : (at : ℕ) (u : ProgramUse) → slice_get us at ≡ Some u → is_unlike alike_in_kind (names_after given us) u ≡ false →
       is_unlike same_arity (names_after given us) u ≡ false → Known (names_after given us) u.name

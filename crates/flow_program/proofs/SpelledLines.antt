@@ -53,7 +53,8 @@ module _ (text : List ℕ) where
       pieces_text text (ended_pieces (window w)) ≡ codes "window " ++ a ++ codes " is "
       ++ b ++ codes " at " ++ decimal w.right.step ++ c ++ d ++ codes "\n"
   window_spelled w a b c d left right updates equalities =
-      around (codes "window ") (window_pieces w) (word (codes "\n") ∷ []) (both (left_pieces w.left) _ left (both (placed_pieces w.right) _ right
+      around (codes "window ") (window_pieces w) (word (codes "\n") ∷ []) (both (left_pieces w.left) _ left
+      (both (placed_pieces w.right) _ right
       (both (flat_map listed_pieces w.updates) (flat_map equated_pieces w.equalities) updates equalities))) ∙ simp append_assoc
 
   pub branch_spelled : (i : ℕ) (p : SurfaceTermTree) (a b : ℕ) (c : List ℕ) → pieces_text text (surface_pieces p) ≡ c →

@@ -202,10 +202,11 @@ module _ (text : List ℕ) where
       PiecesUse (uses_of text l) (flat_map ended_pieces (listing_lines l)) (first_state l + length l.states) 0
   whole l =
       let line = first_declaration in
+      let outputs_at = line + length l.inputs + length l.cells in
       regrouped (weaker (first_state l + length l.states) 0 (after_word (codes "tslprogram 1") (after_word (codes "\n")
       (lines_joined _ _ (declared_use (codes "input ") input (omega arith) (λ n. refl) line l.inputs)
       (lines_joined _ _ (declared_use (codes "cell ") cell (omega arith) (λ n. refl) (line + length l.inputs) l.cells)
-      (lines_joined _ _ (declared_use (codes "output ") output (omega arith) (λ n. refl) (line + length l.inputs + length l.cells) l.outputs)
+      (lines_joined _ _ (declared_use (codes "output ") output (omega arith) (λ n. refl) outputs_at l.outputs)
       (lines_joined _ _ (lines_use (window_uses text) window window_use (first_window l) l.windows)
       (lines_joined _ _ (nodes_use (first_node l) 0 l.nodes)
       (lines_joined _ _ (states_use 0 l.states)

@@ -8,7 +8,7 @@ use Rattle.std.specs.List.{list_all, AllByRecursion}
 use Rattle.std.proofs.lemmas.Bool.{and_from, and_parts, not-true, lt-ltb, ltb-true, leb-true, eqb-true}
 use Rattle.std.proofs.lemmas.List.Folds.{list_all-map}
 use Rattle.sequence.proofs.Bytes.{bytes_same}
-use Rattle.sequence.proofs.Each.{each_joined, each_weaker}
+use Rattle.sequence.proofs.Each.{each_joined, each_both, each_weaker}
 use Rattle.sequence.proofs.Gathered.{all_there_next}
 use Rattle.sequence.specs.Options.{all_there}
 use Rattle.tsl_terms.specs.declared.names.NameKind.TheVariants.{Signal}
@@ -42,7 +42,8 @@ use Rattle.flow_program.proofs.WrittenIsRead.Runs.{Part, nothing, exactly, besid
 use Rattle.flow_program.specs.internal.Numbering.{small, numbered, numbered_term, numbered_listed, numbered_equated}
 use Rattle.flow_program.specs.internal.Numbering.{numbered_left, numbered_window, numbered_node, window_of}
 use Rattle.flow_program.proofs.NumberLemmas.{small_is, listed_numbered, equated_numbered, window_numbered, branch_numbered, assignment_numbered}
-use Rattle.flow_program.proofs.WrittenIsRead.ListingOfTerms.{HeldUse, Kind, PartOf, Reads, name_part, number_at, applied_held, surface_of, as_deep, term_numbered, term_held, term_part, tests, test_part}
+use Rattle.flow_program.proofs.WrittenIsRead.ListingOfTerms.{HeldUse, Kind, PartOf, Reads, name_part, number_at, applied_held, tests}
+use Rattle.flow_program.proofs.WrittenIsRead.ListingOfTerms.{surface_of, as_deep, term_numbered, term_held, term_part, test_part}
 
 pub short_is : (n : ℕ) → n ≤ 65536 → is_short n ≡ true
 short_is n h = lt-ltb n 1000000000000000000 (omega (arith, h))
@@ -165,14 +166,15 @@ module _ (names : List NameEntry) (distinct : AreDistinct names) (readable : Lis
       let signal = and_parts (is_name names s Signal 0) (is_usable_at names s) fits in
       let term = and_parts (term_fits names t) (nat_le (brackets t) deepest) writable in
       made (beside (beside (beside (beside (exactly (codes "[")) (name_part names distinct readable text s signal.1))
-      (exactly (codes " <- "))) (term_part names distinct readable text t term.0)) (exactly (codes "]"))) refl (λ x. let n = x.0.0.0.1 in let p = x.0.1 in record {
+      (exactly (codes " <- "))) (term_part names distinct readable text t term.0)) (exactly (codes "]"))) refl (λ x.
+      let n = x.0.0.0.1 in let p = x.0.1 in let held = term_held names distinct readable text t p term.0 reads in record {
         signal = n.at;
         term = surface_of names distinct readable text t p;
         signal_is = number_at names distinct readable text s Signal 0 signal.0 n;
         numbered_is = term_numbered names distinct readable text t p term.0;
         text_is = n.bytes_are;
         flat = ap (λ n. nat_le n deepest) (as_deep names distinct readable text t p) ∙ term.1;
-        held = λ line. (applied_held names distinct readable text line Signal s 0 signal.0 n, term_held names distinct readable text t p term.0 reads line);
+        held = λ line. (applied_held names distinct readable text line Signal s 0 signal.0 n, held line);
       }) (λ x. refl)
 
   -- ---- the updates of an assignment
@@ -284,7 +286,8 @@ module _ (names : List NameEntry) (distinct : AreDistinct names) (readable : Lis
     step_is = sym (eqb-true left_at 0 shaped);
   }) (λ u. refl)
   left_part (Some p) left_at writable reads shaped few =
-      made (beside (placed_part p left_at (and_parts _ true writable).0 (and_parts _ true reads).0) (exactly (codes " is "))) refl (λ x. record {
+      let placed = placed_part p left_at (and_parts _ true writable).0 (and_parts _ true reads).0 in
+      made (beside placed (exactly (codes " is "))) refl (λ x. record {
         part = record {
           line = Some (placed_at left_at x.0);
           numbered_is = ap (option_map Some) x.0.numbered_is;
@@ -336,16 +339,17 @@ module _ (names : List NameEntry) (distinct : AreDistinct names) (readable : Lis
             let left = left_uses text n l.part.line in
             let right = test_uses text n r.line in
             joined_held ((left ++ right) ++ flat_map (listed_uses text n) us.line) (flat_map (placed_uses text n) es.line)
-            (joined_held (left ++ right) (flat_map (listed_uses text n) us.line) (joined_held left right (l.part.held n) (r.held n)) (us.held n))
-            (es.held n);
+            (joined_held (left ++ right) (flat_map (listed_uses text n) us.line)
+            (joined_held left right (l.part.held n) (r.held n)) (us.held n)) (es.held n);
       }) (λ y. refl)
 
   pub windows_part : (cells : List ℕ) (xs : List WindowTree) → list_all (window_is_writable names) xs ≡ true →
       list_all (window_fits readable cells) xs ≡ true → ReadAs all_windows xs (flat_map (window_text names) xs)
   windows_part cells xs writable fits =
-      lines_read window_tree_line (numbered_window names text) (window_uses text) (window_text names) xs (all_pass (window_is_writable names) (window_fits readable cells)
-      (window_fits readable cells) (λ x. ReadAs one_window x (window_text names x)) (λ x written fit too. window_part cells x written fit)
-      xs writable fits fits)
+      lines_read window_tree_line (numbered_window names text) (window_uses text) (window_text names) xs
+      (each_both (λ x. window_is_writable names x ≡ true) (λ x. window_fits readable cells x ≡ true)
+      (λ x. ReadAs one_window x (window_text names x)) (window_part cells) xs (each_from_list_all (window_is_writable names) xs writable)
+      (each_from_list_all (window_fits readable cells) xs fits))
 
   -- ---- a node
 
@@ -389,7 +393,9 @@ module _ (names : List NameEntry) (distinct : AreDistinct names) (readable : Lis
           line = branch_line p.line a b;
           numbered_is = branch_numbered names text p.line t a b p.numbered_is (small_is a (omega (arith, a_few)))
               (small_is b (omega (arith, b_few)));
-          within = simp (short_is number few, p.within, short_is a a_few, short_is b b_few, lt-ltb a number keeps.0, lt-ltb b number keeps.1);
+          within =
+              let before = lt-ltb a number keeps.0 in
+              simp (short_is number few, p.within, short_is a a_few, short_is b b_few, before, lt-ltb b number keeps.1);
           held = p.held;
         }) (λ x. refl)
     node_part number few (assign ts go) writable keeps =

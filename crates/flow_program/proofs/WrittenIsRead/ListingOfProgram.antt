@@ -163,7 +163,8 @@ module _ (names : List NameEntry) (readable : List ℕ) (text : List ℕ) (cell_
       (rise_alike names text cell_names cells cells_are once w.updates x.updates are ∙ k.rise)))
       (and_from _ _ (right_alone_fits names text w.left x.left w.right x.right parts.left parts.right alone)
       (and_from _ _ within
-      (in_order_alike names text w.equalities x.equalities equal_are (tests_within names text w.right.step w.equalities within) ∙ k.order))))
+      (in_order_alike names text w.equalities x.equalities equal_are (tests_within names text w.right.step w.equalities within)
+      ∙ k.order))))
 
   pub windows_keep : (xs : List WindowTree) (ws : List WindowLine) → all_there (map (numbered_window names text) ws) ≡ Some xs →
       AllByRecursion (HasEqualities names) xs → list_all (window_fits readable cells) xs ≡ true → (i : ℕ) (w : WindowLine) →
@@ -260,7 +261,8 @@ module _ (text : List ℕ) (names : List NameEntry) (distinct : AreDistinct name
   lines_part =
       let declared = declared_part names distinct readable text in
       made (beside (beside (beside (beside (beside (beside (beside (beside (exactly (codes "tslprogram 1")) (exactly (codes "\n")))
-      (declared (codes "input ") input (λ n. refl) (λ n. refl) p.inputs signals_fit.0)) (declared (codes "cell ") cell (λ n. refl) (λ n. refl) p.cells controlled_fit.0))
+      (declared (codes "input ") input (λ n. refl) (λ n. refl) p.inputs signals_fit.0))
+      (declared (codes "cell ") cell (λ n. refl) (λ n. refl) p.cells controlled_fit.0))
       (declared (codes "output ") output (λ n. refl) (λ n. refl) p.outputs controlled_fit.1))
       (windows_part names distinct readable text p.cells p.windows h.is_writable.windows h.is_program.windows_fit))
       (nodes_part names distinct readable text (p.cells ++ p.outputs) signals_fit.1 (length p.states) h.is_writable.few_states 0 p.nodes
@@ -363,8 +365,8 @@ module _ (text : List ℕ) (names : List NameEntry) (distinct : AreDistinct name
 
   no_limit_fault : limit_fault listing ≡ None
   no_limit_fault =
-      let windows = le-ltb most_windows (length lines.windows.line) (subst (λ k. k ≤ most_windows) (sym windows_count) h.is_writable.few_windows) in
-      let nodes = le-ltb most_nodes (length lines.nodes.lines) (subst (λ k. k ≤ most_nodes) (sym nodes_count) h.is_writable.few_nodes) in
+      let windows = le-ltb most_windows (length lines.windows.line) (omega (arith, windows_count, h.is_writable.few_windows)) in
+      let nodes = le-ltb most_nodes (length lines.nodes.lines) (omega (arith, nodes_count, h.is_writable.few_nodes)) in
       let states = le-ltb most_states (length p.states) h.is_writable.few_states in
       λ i. first_there (cond (windows i) (Some ProgramError.Windows) None ∷ cond (nodes i) (Some ProgramError.Nodes) None
       ∷ cond (states i) (Some ProgramError.States) None ∷ [])

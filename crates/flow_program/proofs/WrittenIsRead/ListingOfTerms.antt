@@ -216,7 +216,8 @@ module _ (names : List NameEntry) where
     application_part f (more_terms t ts) usable arguments = beside (name_part f usable) arguments
 
     argument_part : (t : TermTree) → Term t (term_text names t) →
-        Part text (λ (n : NamesOf t). argument_pieces (surface_of t n) (surface_pieces (surface_of t n))) (argument_text t (term_text names t))
+        Part text (λ (n : NamesOf t). argument_pieces (surface_of t n) (surface_pieces (surface_of t n)))
+        (argument_text t (term_text names t))
     argument_part (signal s) term = term
     argument_part (apply f no_terms) term = term
     argument_part (apply f (more_terms t ts)) term =
