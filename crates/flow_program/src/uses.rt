@@ -255,6 +255,7 @@ impl UsesNames for SpelledUpdate {
 
     ghost uses = { update_uses };
 
+    #[tactic(auto, using(std::proofs::lemmas::Bool::and_parts))]
     fn add_uses<'a>(
         &self,
         list: &mut Vec<SpelledUse<'a>>,
@@ -275,6 +276,7 @@ impl UsesNames for SpelledListed {
 
     ghost uses = { listed_uses };
 
+    #[tactic(auto, using(std::proofs::lemmas::Bool::and_parts))]
     fn add_uses<'a>(
         &self,
         list: &mut Vec<SpelledUse<'a>>,
