@@ -1,12 +1,11 @@
 -- The names of a text know each use: its number names what it is used as.
-use Rattle.std.proofs.Common.{◌≡◌, ℕ, zero, suc, ◌==◌, Bool, true, false, not, ◌&&◌, ◌||◌, cond, List, [], ◌∷◌, ◌++◌, refl, ap, sym, ◌∙◌}
+use Rattle.std.proofs.Common.{rules, ◌≡◌, ℕ, ◌==◌, Bool, true, false, not, cond, List, [], ◌∷◌, ◌++◌, refl, ap, sym, subst, ◌∙◌}
 use Rattle.std.specs.Prelude.{Option, Some, None, slice_get, flat_map, option_and_then, IsTrue}
-use Rattle.std.specs.List.{list_all}
+use Rattle.std.specs.List.{list_all, AllByRecursion}
 use Rattle.std.specs.Option.{option_map_or}
-use Rattle.std.specs.Str.{bytes_eq}
-use Rattle.std.proofs.lemmas.Bool.{and_from, and_parts}
-use Rattle.std.proofs.lemmas.List.Folds.{list_all-append}
-use Rattle.sequence.proofs.Bytes.{bytes_same}
+use Rattle.std.proofs.lemmas.Bool.{and_parts, or_left, not-false}
+use Rattle.sequence.proofs.Each.{each_left, each_right, each_at, each_from_places}
+use Rattle.sequence.proofs.Passes.{passes_at, list_all_joined}
 use Rattle.sequence.specs.Numbers.{is_among}
 use Rattle.tsl_text.specs.Names.{is_usable}
 use Rattle.tsl_terms.specs.declared.names.NameKind.TheVariants.{Predicate}
@@ -14,10 +13,10 @@ use Rattle.tsl_terms.specs.Name.{Name, number_of, same_kind, question, AreDistin
 use Rattle.tsl_terms.specs.Clashes.{alike_in_kind, same_arity}
 use Rattle.tsl_terms.specs.WellFormed.{name_fits}
 use Rattle.tsl_terms.specs.internal.FirstUse.{name_with}
-use Rattle.tsl_terms.proofs.FirstUses.{first_of, named_first, FirstAt, first_at}
+use Rattle.tsl_terms.proofs.FirstUses.{first_of, first_some, named_first, FirstAt, first_at}
 use Rattle.flow_program.specs.Uses.{ProgramUse, question_entry, entries_of_use, names_after}
 use Rattle.flow_program.specs.Rules.{is_unlike}
-use Rattle.flow_program.proofs.WithUses.{are_first, first_behind}
+use Rattle.flow_program.proofs.WithUses.{are_first}
 
 -- the number of a use names it in its kind and with its number of arguments
 pub record Known (names : List Name) (u : Name) : Type 0 where
@@ -36,50 +35,11 @@ known_of names u f found text kind arity = by (number_of names u.text) refl foun
   by None e g = absurd (cc)
   by (Some k) e g = record { number = k; entry = f; numbered = e; there = g; text = text; kind = kind; arity = arity }
 
--- a use has its text among the names that get numbers
-first_use : (us : List ProgramUse) (at : ℕ) (u : ProgramUse) → slice_get us at ≡ Some u →
-    (f : Name) × (first_of (flat_map entries_of_use us) u.name.text ≡ Some f)
-first_use [] at u there = absurd (cc)
-first_use (v ∷ us) zero u there =
-    let same : v ≡ u = cc in (
-      v.name,
-      ap (λ b. cond b (Some v.name) (first_of (cond v.is_tested (question_entry ∷ []) [] ++ flat_map entries_of_use us) u.name.text))
-          (bytes_same u.name.text v.name.text (ap (λ n. n.name.text) (sym same))),
-    )
-first_use (v ∷ us) (suc at) u there =
-    let rest = first_use us at u there in
-    let behind = first_behind (entries_of_use v) (flat_map entries_of_use us) u.name.text rest.0 rest.1 in
-    behind
-
--- so has `?` where a signal is tested
-first_question : (us : List ProgramUse) (at : ℕ) (u : ProgramUse) → slice_get us at ≡ Some u → IsTrue u.is_tested →
-    (f : Name) × (first_of (flat_map entries_of_use us) question ≡ Some f)
-first_question [] at u there asks = absurd (cc)
-first_question (v ∷ us) zero u there asks =
-    let same : v ≡ u = cc in
-    let tested : v.is_tested ≡ true = ap (λ w. w.is_tested) same ∙ asks in
-    by (bytes_eq question v.name.text) tested
-  where
-    by : (b : Bool) → v.is_tested ≡ true →
-        (f : Name) × (cond b (Some v.name) (first_of (cond v.is_tested (question_entry ∷ []) []
-        ++ flat_map entries_of_use us) question) ≡ Some f)
-    by true e = (v.name, refl)
-    by false e = (question_entry, ap (λ t. first_of (cond t (question_entry ∷ []) [] ++ flat_map entries_of_use us) question) e)
-first_question (v ∷ us) (suc at) u there asks =
-    let rest = first_question us at u there asks in
-    first_behind (entries_of_use v) (flat_map entries_of_use us) question rest.0 rest.1
-
--- a first one passes where all do
-first_passes : (p : Name → Bool) (ns : List Name) (text : List ℕ) (f : Name) → IsTrue (list_all p ns) → first_of ns text ≡ Some f →
-    IsTrue (p f)
-first_passes p [] text f all is = absurd (cc)
-first_passes p (n ∷ ns) text f all is =
-    let parts = and_parts (p n) (list_all p ns) all in
-    by (bytes_eq text n.text) parts.0 (first_passes p ns text f parts.1) is
-  where
-    by : (b : Bool) → p n ≡ true → (first_of ns text ≡ Some f → IsTrue (p f)) → cond b (Some n) (first_of ns text) ≡ Some f → IsTrue (p f)
-    by true here rest e = let same : n ≡ f = cc in ap p (sym same) ∙ here
-    by false here rest e = rest e
+-- what holds of all members of parts holds of those of each part
+each_part : {X Y : Type 0} (P : X → Type 0) (f : Y → List X) (ys : List Y) → AllByRecursion P (flat_map f ys) →
+    AllByRecursion (λ y. AllByRecursion P (f y)) ys
+each_part P f [] each = tt
+each_part P f (y ∷ ys) each = (each_left P (f y) (flat_map f ys) each, each_part P f ys (each_right P (f y) (flat_map f ys) each))
 
 -- names that get numbers may be written
 pub named_fit : (us : List ProgramUse) → IsTrue (list_all (λ u. is_usable u.name.text) us) →
@@ -87,46 +47,45 @@ pub named_fit : (us : List ProgramUse) → IsTrue (list_all (λ u. is_usable u.n
 named_fit [] all = refl
 named_fit (u ∷ us) all =
     let parts = and_parts (is_usable u.name.text) (list_all (λ v. is_usable v.name.text) us) all in
-    and_from (name_fits u.name) (list_all name_fits (cond u.is_tested (question_entry ∷ []) [] ++ flat_map entries_of_use us))
-    (ap (λ b. b || ((bytes_eq u.name.text question && same_kind u.name.kind Predicate) && (u.name.arity == 1))) parts.0)
-    (by u.is_tested (named_fit us parts.1))
+    by u.is_tested (or_left (is_usable u.name.text) _ parts.0) (named_fit us parts.1)
   where
-    by : (t : Bool) → IsTrue (list_all name_fits (flat_map entries_of_use us)) →
-        IsTrue (list_all name_fits (cond t (question_entry ∷ []) [] ++ flat_map entries_of_use us))
-    by true h = h
-    by false h = h
+    by : (t : Bool) → name_fits u.name ≡ true → IsTrue (list_all name_fits (flat_map entries_of_use us)) →
+        IsTrue (list_all name_fits (u.name ∷ (cond t (question_entry ∷ []) [] ++ flat_map entries_of_use us)))
+    by true fits h = search rules
+    by false fits h = search rules
 
 -- what may be written and is `?` is the test of a signal
 question_like : (f : Name) → f.text ≡ question → IsTrue (name_fits f) →
     (same_kind f.kind Predicate ≡ true) × ((f.arity == 1) ≡ true)
 question_like f is fits =
     let never : is_usable f.text ≡ false = ap is_usable is in
-    let both : ((bytes_eq f.text question && same_kind f.kind Predicate) && (f.arity == 1)) ≡ true =
-    sym (ap (λ b. b || ((bytes_eq f.text question && same_kind f.kind Predicate) && (f.arity == 1))) never) ∙ fits in
-    let parts = and_parts (bytes_eq f.text question && same_kind f.kind Predicate) (f.arity == 1) both in
-    ((and_parts (bytes_eq f.text question) (same_kind f.kind Predicate) parts.0).1, parts.1)
+    (search rules, search rules)
 
 module _ (given : List Name) (distinct : AreDistinct given) (us : List ProgramUse) where
   abbrev all : List Name
   all = given ++ flat_map entries_of_use us
 
-  named_is_first : (text : List ℕ) → name_with (names_after given us) text ≡ first_of all text
+  pub named_is_first : (text : List ℕ) → name_with (names_after given us) text ≡ first_of all text
   named_is_first text = ap (λ names. name_with names text) (are_first given (flat_map entries_of_use us) distinct) ∙ named_first all text
+
+  -- the names that get numbers by a use have a first one of their text
+  abbrev HasFirst : Name → Type 0
+  HasFirst n = (f : Name) × (first_of all n.text ≡ Some f)
+
+  firsts : (at : ℕ) (u : ProgramUse) → slice_get us at ≡ Some u → AllByRecursion HasFirst (entries_of_use u)
+  firsts at u =
+      each_at (λ v. AllByRecursion HasFirst (entries_of_use v)) us at u (each_part HasFirst entries_of_use us
+      (each_right HasFirst given (flat_map entries_of_use us) (each_from_places HasFirst all (first_some all))))
 
   alike_first : (alike : Name → Name → Bool) (u : ProgramUse) (f : Name) → name_with (names_after given us) u.name.text ≡ Some f →
       is_unlike alike (names_after given us) u ≡ false → alike f u.name ≡ true
   alike_first alike u f found like =
-      by (alike f u.name) (sym (ap (λ o. option_map_or (λ n. not (alike n u.name)) o false) found) ∙ like)
-    where
-      by : (b : Bool) → not b ≡ false → b ≡ true
-      by true e = refl
-      by false e = absurd (cc)
+      not-false (alike f u.name) (sym (ap (λ o. option_map_or (λ n. not (alike n u.name)) o false) found) ∙ like)
 
   pub known_name : (at : ℕ) (u : ProgramUse) → slice_get us at ≡ Some u → is_unlike alike_in_kind (names_after given us) u ≡ false →
       is_unlike same_arity (names_after given us) u ≡ false → Known (names_after given us) u.name
   known_name at u there kinds arities =
-      let use_first = first_use us at u there in
-      let first = first_behind given (flat_map entries_of_use us) u.name.text use_first.0 use_first.1 in
+      let first = (firsts at u there).0 in
       let stands : FirstAt all u.name.text first.0 = first_at all u.name.text first.0 first.1 in
       let found : name_with (names_after given us) u.name.text ≡ Some first.0 = named_is_first u.name.text ∙ first.1 in
       known_of (names_after given us) u.name first.0 found (sym stands.same)
@@ -135,11 +94,10 @@ module _ (given : List Name) (distinct : AreDistinct given) (us : List ProgramUs
   pub known_question : IsTrue (list_all name_fits given) → IsTrue (list_all (λ u. is_usable u.name.text) us) →
       (at : ℕ) (u : ProgramUse) → slice_get us at ≡ Some u → IsTrue u.is_tested → Known (names_after given us) question_entry
   known_question fit usable at u there asks =
-      let use_first = first_question us at u there asks in
-      let first = first_behind given (flat_map entries_of_use us) question use_first.0 use_first.1 in
+      let first = (subst (λ t. AllByRecursion HasFirst (cond t (question_entry ∷ []) [])) asks (firsts at u there).1).0 in
       let stands : FirstAt all question first.0 = first_at all question first.0 first.1 in
-      let fits : IsTrue (name_fits first.0) = first_passes name_fits all question first.0
-      (list_all-append name_fits given (flat_map entries_of_use us) ∙ and_from _ _ fit (named_fit us usable)) first.1 in
+      let fits : IsTrue (name_fits first.0) = passes_at name_fits all stands.at first.0
+      (list_all_joined name_fits given (flat_map entries_of_use us) fit (named_fit us usable)) stands.there in
       let entry = question_like first.0 (sym stands.same) fits in
       known_of (names_after given us) question_entry first.0 (named_is_first question ∙ first.1) (sym stands.same) entry.0 entry.1
 

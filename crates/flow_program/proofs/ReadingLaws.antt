@@ -17,7 +17,6 @@ use Rattle.flow_program.specs.Uses.{uses_of, entries_of_use, names_after}
 use Rattle.flow_program.specs.Rules.{fault_of}
 use Rattle.flow_program.specs.Reading.{IsReading, HasRuleFault, HasProgramCause, IsOfProgramText, GoOnFrom}
 use Rattle.program_listing.proofs.OneListing.{one_listing, one_fault}
-use Rattle.program_listing.proofs.ListingFacts.{listing_from}
 use Rattle.flow_program.specs.internal.Numbering.{Numbered}
 use Rattle.flow_program.proofs.KeptProgram.{same_program}
 use Rattle.flow_program.proofs.WithUses.{are_first}
@@ -26,7 +25,7 @@ use Rattle.flow_program.proofs.WrittenIsRead.ListingOfProgram.{ListingOfProgram,
 -- ---- a text that spells a program is read
 
 pub is_listing_of : (text : List ℕ) (names : List Name) (p : ProgramTree) → (r : ListingOfProgram text names p) → IsListing text r.listing
-is_listing_of text names p r = listing_from text r.listing r.end r.stands r.within r.once r.has_node r.has_state
+is_listing_of text names p r = r.is_listing
 
 pub spelled_is_read : (text : List ℕ) (names : List Name) (p : ProgramTree) → AreDistinct names → ProgramText text names p →
     IsReading text names p names

@@ -1,12 +1,11 @@
 -- How many uses surface terms have.
-use Rattle.std.proofs.Common.{◌≡◌, ℕ, zero, suc, ◌+◌, ◌<◌, ◌≤◌, List, [], ◌∷◌, ◌++◌, length, get_or, drop, map, ap, sym, ◌∙◌, arith}
+use Rattle.std.proofs.Common.{◌≡◌, ℕ, zero, suc, ◌+◌, ◌<◌, ◌≤◌, List, [], ◌∷◌, ◌++◌, length, get_or, drop, map, ap, ◌∙◌, arith}
 use Rattle.std.proofs.Common.{length-append}
 use Rattle.sequence.proofs.Lists.{left_at}
 use Rattle.program_listing.specs.declared.listing.Name.{Name}
-use Rattle.program_listing.specs.Listing.{SurfaceTermTree, bare, applied, SurfaceTermTrees, no_surfaces, more_surfaces, count_of_surfaces, WindowLine}
-use Rattle.program_listing.specs.Listing.{NodeLine, ListingTree, declared}
-use Rattle.flow_program.specs.Uses.{ProgramUse, signal_use, line_uses, uses_of, first_window, first_node, term_uses, terms_uses}
-use Rattle.flow_program.specs.Uses.{declared_uses, windows_uses, nodes_uses}
+use Rattle.program_listing.specs.Listing.{SurfaceTermTree, bare, applied, SurfaceTermTrees, no_surfaces, more_surfaces, count_of_surfaces}
+use Rattle.flow_program.specs.Uses.{ProgramUse, signal_use, line_uses, term_uses, terms_uses}
+use Rattle.flow_program.specs.Uses.{declared_uses}
 
 module _ (text : List ℕ) (line : ℕ) where
   term_is_one : (p : SurfaceTermTree) → 1 ≤ length (term_uses text line p)
@@ -66,20 +65,3 @@ declared_append text line [] ys = ap (λ k. declared_uses text k ys) (let e : li
 declared_append text line (x ∷ xs) ys =
     ap (λ us. signal_use text line x ∷ us) (declared_append text (suc line) xs ys
     ∙ ap (λ k. declared_uses text (suc line) xs ++ declared_uses text k ys) (shift line (length xs)))
-
--- the uses of each kind of line, one after another, are all
-pub uses_joined : (text : List ℕ) (l : ListingTree) (ins cs os : List Name) (ws : List WindowLine) (ns : List NodeLine)
-    (second third w n : ℕ) (a b c d e f : List ProgramUse) → ins ≡ l.inputs → cs ≡ l.cells → os ≡ l.outputs → ws ≡ l.windows →
-    ns ≡ l.nodes →
-    second ≡ 2 + length l.inputs → third ≡ second + length l.cells → w ≡ first_window l → n ≡ first_node l →
-    a ≡ [] → b ≡ a ++ declared_uses text 2 ins → c ≡ b ++ declared_uses text second cs → d ≡ c ++ declared_uses text third os →
-    e ≡ d ++ windows_uses text w ws → f ≡ e ++ nodes_uses text n ns → f ≡ uses_of text l
-uses_joined text l ins cs os ws ns second third w n a b c d e f ins_are cs_are os_are ws_are ns_are second_is third_is w_is n_is none
-    b_is c_is d_is e_is f_is =
-    let both : third ≡ 2 + length (l.inputs ++ l.cells) = omega (arith, third_is, second_is, length-append l.inputs l.cells) in
-    let b_all : b ≡ declared_uses text 2 l.inputs = b_is ∙ (λ i. none i ++ declared_uses text 2 (ins_are i)) in
-    let c_all : c ≡ declared_uses text 2 (l.inputs ++ l.cells) =
-    c_is ∙ (λ i. b_all i ++ declared_uses text (second_is i) (cs_are i)) ∙ sym (declared_append text 2 l.inputs l.cells) in
-    let d_all : d ≡ declared_uses text 2 (declared l) =
-    d_is ∙ (λ i. c_all i ++ declared_uses text (both i) (os_are i)) ∙ sym (declared_append text 2 (l.inputs ++ l.cells) l.outputs) in
-    f_is ∙ (λ i. (e_is ∙ (λ j. d_all j ++ windows_uses text (w_is j) (ws_are j))) i ++ nodes_uses text (n_is i) (ns_are i))

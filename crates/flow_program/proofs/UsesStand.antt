@@ -1,22 +1,22 @@
 -- Each use of a name in a listing is that of a name that stands in the text, and the text has two bytes for each, and one for each
 -- line besides: one walk along the pieces of the lines.
-use Rattle.std.proofs.Common.{◌≡◌, ℕ, suc, ◌+◌, ◌*◌, ◌≤◌, true, false, not, ◌&&◌, List, [], ◌∷◌, ◌++◌, length, map, refl, ap, sym, subst}
+use Rattle.std.proofs.Common.{◌≡◌, ℕ, suc, ◌+◌, ◌*◌, ◌≤◌, true, List, [], ◌∷◌, ◌++◌, length, map, refl, ap, sym, subst}
 use Rattle.std.proofs.Common.{◌∙◌}
-use Rattle.std.proofs.Common.{arith, length-append, append_assoc}
-use Rattle.std.specs.Prelude.{nat_le, codes, decimal, flat_map, Option, Some, None}
+use Rattle.std.proofs.Common.{arith, rules, length-append, append_assoc}
+use Rattle.std.specs.Prelude.{codes, decimal, flat_map, Option, Some, None}
 use Rattle.std.specs.List.{list_all, AllByRecursion}
 use Rattle.std.proofs.lemmas.Bool.{and_parts}
 use Rattle.std.proofs.lemmas.Grind.{flat_map-append}
 use Rattle.std.proofs.lemmas.List.{append-nil}
 use Rattle.sequence.proofs.Each.{each_joined, each_weaker}
 use Rattle.sequence.proofs.Passes.{list_all_parts, list_all_from_each}
-use Rattle.tsl_text.specs.Names.{is_usable, is_name_text, is_reserved}
+use Rattle.tsl_text.specs.Names.{is_usable}
 use Rattle.tsl_terms.specs.declared.names.NameKind.TheVariants.{Function, Predicate}
 use Rattle.program_listing.specs.declared.listing.Name.{Name}
 use Rattle.program_listing.specs.LineText.{Piece, word, named, argument_pieces, surface_pieces, surfaces_pieces, LineTree, input, cell}
 use Rattle.program_listing.specs.LineText.{output}
 use Rattle.program_listing.specs.LineText.{window, node, update_pieces, set_pieces, listed_pieces, placed_pieces, equated_pieces}
-use Rattle.program_listing.specs.LineText.{left_pieces, window_pieces}
+use Rattle.program_listing.specs.LineText.{left_pieces}
 use Rattle.program_listing.specs.LineText.{line_pieces, ended_pieces, node_lines, state_lines, listing_lines}
 use Rattle.program_listing.specs.Listing.{SurfaceTermTree, bare, applied, SurfaceTermTrees, no_surfaces, more_surfaces, count_of_surfaces, UpdateLine}
 use Rattle.program_listing.specs.Listing.{ListedLine, PlacedLine, WindowLine, NodeLine, branch_line, assignment_line, ListingTree}
@@ -27,12 +27,9 @@ use Rattle.program_listing.proofs.ListingFacts.{piece_stands, pieces_stand, piec
 use Rattle.flow_program.specs.Uses.{ProgramUse, read_use, tested_use, applied_use, signal_use, term_uses, terms_uses, test_uses}
 use Rattle.flow_program.specs.Uses.{update_uses}
 use Rattle.flow_program.specs.Uses.{listed_uses, placed_uses, left_uses, window_uses, node_uses, line_uses, declared_uses}
-use Rattle.flow_program.specs.Uses.{windows_uses, nodes_uses}
+use Rattle.flow_program.specs.Uses.{nodes_uses}
 use Rattle.flow_program.specs.Uses.{first_declaration, first_window, first_node, first_state, uses_of}
 use Rattle.flow_program.proofs.UseLemmas.{declared_append}
-
-four_apart : (a b c d : List ProgramUse) → ((a ++ b) ++ c) ++ d ≡ a ++ (b ++ (c ++ d))
-four_apart a b c d = simp append_assoc
 
 -- so many bytes at least are spelled by pieces whose names stand
 abbrev pub least : List Piece → ℕ
@@ -76,13 +73,13 @@ module _ (text : List ℕ) where
     enough = omega (arith, r.enough, s.enough, length-append us vs, least_append ps qs);
   }
 
+  regrouped : {us vs : List ProgramUse} {ps : List Piece} {more less : ℕ} → PiecesUse us ps more less → us ≡ vs → PiecesUse vs ps more less
+  regrouped {ps = ps} {more = more} {less = less} r same = subst (λ us. PiecesUse us ps more less) same r
+
   -- pieces without a name behind
   closed : {us : List ProgramUse} {ps qs : List Piece} {more less more' less' : ℕ} → PiecesUse us ps more less →
       PiecesUse [] qs more' less' → PiecesUse us (ps ++ qs) (more + more') (less + less')
-  closed {ps = ps} {qs = qs} r s = record {
-    each = λ h. r.each (list_all_parts (piece_stands text) ps qs h).0;
-    enough = omega (arith, r.enough, s.enough, least_append ps qs);
-  }
+  closed {us = us} r s = regrouped (joined r s) (append-nil us)
 
   weaker : {us : List ProgramUse} {ps : List Piece} {more less : ℕ} (more' less' : ℕ) → PiecesUse us ps more less →
       more' + less ≤ more + less' → PiecesUse us ps more' less'
@@ -152,15 +149,9 @@ module _ (text : List ℕ) where
     -- a line has its line feed besides
     window_use : (w : WindowLine) → PiecesUse (window_uses text line w) (ended_pieces (window w)) 1 0
     window_use w =
-        let left = left_uses text line w.left in
-        let right = placed_uses text line w.right in
-        let listed = flat_map (listed_uses text line) w.updates in
-        let equal = flat_map (placed_uses text line) w.equalities in
-        weaker 1 0 (closed (after_word (codes "window ") (subst
-        (λ us. PiecesUse us (window_pieces w) 0 0) (sym (four_apart left right listed equal))
-        (weaker 0 0 (joined (left_use w.left) (joined (placed_use w.right)
+        weaker 1 0 (closed (after_word (codes "window ") (regrouped (joined (left_use w.left) (joined (placed_use w.right)
         (joined (many (listed_uses text line) listed_pieces listed_use w.updates)
-        (many (placed_uses text line) equated_pieces equated_use w.equalities)))) (omega arith))))
+        (many (placed_uses text line) equated_pieces equated_use w.equalities)))) (simp append_assoc)))
         (after_word (codes "\n") no_piece)) (omega arith)
 
     node_use : (number : ℕ) (n : NodeLine) → PiecesUse (node_uses text line n) (ended_pieces (node number n)) 1 0
@@ -207,31 +198,21 @@ module _ (text : List ℕ) where
   lines_joined xs ys {us = us} {vs = vs} {more = more} {more' = more'} r s =
       subst (λ ps. PiecesUse (us ++ vs) ps (more + more') 0) (sym (flat_map-append ended_pieces xs ys)) (joined r s)
 
-  regroup_5 : (a b c d e : List ProgramUse) → a ++ (b ++ (c ++ (d ++ (e ++ [])))) ≡ (((a ++ b) ++ c) ++ d) ++ e
-  regroup_5 a b c d e = simp (append_assoc, append-nil)
-
   whole : (l : ListingTree) →
       PiecesUse (uses_of text l) (flat_map ended_pieces (listing_lines l)) (first_state l + length l.states) 0
   whole l =
       let line = first_declaration in
-      let a = declared_uses text line l.inputs in
-      let b = declared_uses text (line + length l.inputs) l.cells in
-      let c = declared_uses text (line + length (l.inputs ++ l.cells)) l.outputs in
-      let w = windows_uses text (first_window l) l.windows in
-      let n = nodes_uses text (first_node l) l.nodes in
-      let uses_are : a ++ (b ++ (c ++ (w ++ (n ++ [])))) ≡ uses_of text l =
-      regroup_5 a b c w n ∙ ap (λ us. (us ++ w) ++ n) (ap (λ us. us ++ c) (sym (declared_append text line l.inputs l.cells))
-      ∙ sym (declared_append text line (l.inputs ++ l.cells) l.outputs)) in
-      subst (λ us. PiecesUse us (flat_map ended_pieces (listing_lines l)) (first_state l + length l.states) 0) uses_are
-      (weaker (first_state l + length l.states) 0 (after_word (codes "tslprogram 1") (after_word (codes "\n")
+      let outputs_at = line + length l.inputs + length l.cells in
+      regrouped (weaker (first_state l + length l.states) 0 (after_word (codes "tslprogram 1") (after_word (codes "\n")
       (lines_joined _ _ (declared_use (codes "input ") input (omega arith) (λ n. refl) line l.inputs)
       (lines_joined _ _ (declared_use (codes "cell ") cell (omega arith) (λ n. refl) (line + length l.inputs) l.cells)
-      (lines_joined _ _ (declared_use (codes "output ") output (omega arith) (λ n. refl) (line + length (l.inputs ++ l.cells)) l.outputs)
+      (lines_joined _ _ (declared_use (codes "output ") output (omega arith) (λ n. refl) outputs_at l.outputs)
       (lines_joined _ _ (lines_use (window_uses text) window window_use (first_window l) l.windows)
       (lines_joined _ _ (nodes_use (first_node l) 0 l.nodes)
       (lines_joined _ _ (states_use 0 l.states)
       (weaker 0 0 (after_word (codes "end") (after_word (codes "\n") no_piece)) (omega arith))))))))))
       (omega (arith, length-append (l.inputs ++ l.cells) l.outputs, length-append l.inputs l.cells)))
+      (simp (declared_append, append_assoc, append-nil))
 
   -- ---- what follows
 
@@ -239,30 +220,24 @@ module _ (text : List ℕ) where
   uses_stand l h = (whole l).each (pieces_in text l h).stand
 
   usable : (u : ProgramUse) → UseStands u → is_usable u.name.text ≡ true
-  usable u stands =
-      ap is_usable stands.1 ∙ (and_parts (nat_le u.place.start u.place.end && nat_le u.place.end (length text))
-      (is_usable (name_bytes text u.place)) stands.0).1
+  usable u stands = ap is_usable stands.1 ∙ (and_parts _ (is_usable (name_bytes text u.place)) stands.0).1
 
   pub uses_usable : (l : ListingTree) → IsListing text l → list_all (λ u. is_usable u.name.text) (uses_of text l) ≡ true
   uses_usable l h =
       list_all_from_each (λ u. is_usable u.name.text) (uses_of text l)
       (each_weaker UseStands (λ u. is_usable u.name.text ≡ true) usable (uses_of text l) (uses_stand l h))
 
-  has_byte : (n : Name) → name_stands text n ≡ true → 1 ≤ length (name_bytes text n)
-  has_byte n h =
-      by (name_bytes text n)
-      (and_parts (nat_le n.start n.end && nat_le n.end (length text)) (is_usable (name_bytes text n)) h).1
-    where
-      by : (bytes : List ℕ) → is_usable bytes ≡ true → 1 ≤ length bytes
-      by [] k = let never : false ≡ true = (and_parts (is_name_text []) (not (is_reserved [])) k).0 in absurd (cc)
-      by (b ∷ bs) k = omega arith
+  has_byte : (bytes : List ℕ) → is_usable bytes ≡ true → 1 ≤ length bytes
+  has_byte [] h = absurd (cc)
+  has_byte (b ∷ bs) h = omega arith
 
   least_bytes : (ps : List Piece) → pieces_stand text ps ≡ true → least ps ≤ length (pieces_text text ps)
   least_bytes [] h = omega arith
   least_bytes (word w ∷ ps) h = omega (arith, least_bytes ps h, length-append w (pieces_text text ps))
   least_bytes (named n ∷ ps) h =
       let parts = and_parts (name_stands text n) (pieces_stand text ps) h in
-      omega (arith, has_byte n parts.0, least_bytes ps parts.1, length-append (name_bytes text n) (pieces_text text ps))
+      let usable : is_usable (name_bytes text n) ≡ true = search rules in
+      omega (arith, has_byte (name_bytes text n) usable, least_bytes ps parts.1, length-append (name_bytes text n) (pieces_text text ps))
 
   -- two bytes for each use of a name, and one for each line
   pub uses_and_lines : (l : ListingTree) → IsListing text l → 2 * length (uses_of text l) + (first_state l + length l.states) ≤ length text

@@ -1,5 +1,5 @@
 -- Names that grow by uses.
-use Rattle.std.proofs.Common.{◌≡◌, ℕ, ◌+◌, ◌≤◌, Bool, true, false, cond, List, [], ◌∷◌, ◌++◌, length, refl, ap, sym, subst, ◌∙◌}
+use Rattle.std.proofs.Common.{◌≡◌, ℕ, ◌+◌, ◌≤◌, List, [], ◌∷◌, ◌++◌, length, refl, ap, sym, subst, ◌∙◌}
 use Rattle.std.proofs.Common.{append_assoc, arith, length-append, ◌^◌, ◌<◌, get_or, drop, map}
 use Rattle.std.specs.Prelude.{flat_map}
 use Rattle.flow_program.specs.declared.uses.SpelledUse.{SpelledUse}
@@ -7,17 +7,15 @@ use Rattle.flow_program.specs.Uses.{entries_of_use, names_after}
 use Rattle.flow_program.specs.internal.UseView.{use_view}
 use Rattle.std.specs.Prelude.{Option, Some, None, IsSomeAnd, IsTrue}
 use Rattle.std.specs.List.{list_all}
-use Rattle.std.specs.Str.{bytes_eq}
-use Rattle.std.proofs.lemmas.Bool.{and_from, and_parts}
+use Rattle.std.proofs.lemmas.Bool.{and_parts}
 use Rattle.std.proofs.lemmas.List.{append-nil, drop_more}
-use Rattle.std.proofs.lemmas.List.Folds.{list_all-append}
 use Rattle.std.proofs.Math.Seq.{take-append_seam}
 use Rattle.sequence.proofs.Places.{slice_get-behind}
+use Rattle.sequence.proofs.Passes.{list_all_push}
 use Rattle.tsl_terms.specs.Name.{Name, number_of, AreDistinct}
 use Rattle.tsl_terms.specs.Clashes.{added_unless_found, with_use, with_uses, first_uses}
 use Rattle.tsl_terms.specs.WellFormed.{name_fits}
 use Rattle.tsl_terms.proofs.NameLemmas.{absent_before}
-use Rattle.tsl_terms.proofs.FirstUses.{first_of}
 
 -- uses in two parts
 pub with_uses_append : (names xs ys : List Name) → with_uses names (xs ++ ys) ≡ with_uses (with_uses names xs) ys
@@ -53,22 +51,11 @@ pub are_first : (given us : List Name) → AreDistinct given → with_uses given
 are_first given us distinct =
     ap (λ names. with_uses names us) (sym (distinct_are given [] distinct)) ∙ sym (with_uses_append [] given us)
 
--- a text that stands after others has a first one
-pub first_behind : (xs ys : List Name) (text : List ℕ) (f : Name) → first_of ys text ≡ Some f →
-    (g : Name) × (first_of (xs ++ ys) text ≡ Some g)
-first_behind [] ys text f h = (f, h)
-first_behind (x ∷ xs) ys text f h = by (bytes_eq text x.text) (first_behind xs ys text f h) where
-  by : (is : Bool) → (g : Name) × (first_of (xs ++ ys) text ≡ Some g) → (g : Name) × (cond is (Some x) (first_of (xs ++ ys) text) ≡ Some g)
-  by true k = (x, refl)
-  by false k = k
-
 -- names that may be written stay so
 added_fits : (names : List Name) (u : Name) (found : Option ℕ) → IsTrue (list_all name_fits names) → IsTrue (name_fits u) →
     IsTrue (list_all name_fits (added_unless_found names u found))
 added_fits names u (Some number) fit fits = fit
-added_fits names u None fit fits =
-    list_all-append name_fits names (u ∷ [])
-    ∙ and_from (list_all name_fits names) (list_all name_fits (u ∷ [])) fit (and_from (name_fits u) true fits refl)
+added_fits names u None fit fits = list_all_push name_fits names u fit fits
 
 pub names_fit : (us names : List Name) → IsTrue (list_all name_fits names) → IsTrue (list_all name_fits us) →
     IsTrue (list_all name_fits (with_uses names us))

@@ -8,7 +8,7 @@ ghost use Rattle.program_listing.specs.Listing.{count_of_surfaces};
 ghost use Rattle.program_listing.specs.internal.NamesStand.{listed_line_stands, placed_line_stands, left_line_stands, window_line_stands};
 ghost use Rattle.program_listing.specs.internal.NamesStand.{node_line_stands};
 ghost use Rattle.program_listing.specs.Listing.{surface_tree, surface_trees, update_line, listed_line, placed_line, window_line, node_line};
-ghost use Rattle.program_listing.specs.Listing.{listing_tree};
+ghost use Rattle.program_listing.specs.Listing.{listing_tree, declared};
 ghost use Rattle.program_listing.specs.internal.NamesStand.{ListingStands};
 ghost use Rattle.program_listing.specs.ListingTree.{UpdateLine, ListedLine, PlacedLine, WindowLine, NodeLine};
 ghost use Rattle.flow_program.specs.Uses.{ProgramUse, signal_use, read_use, tested_use, applied_use, term_uses, terms_uses, test_uses};
@@ -108,7 +108,7 @@ fn count_of_surfaces(surfaces: &SurfaceTermList) -> u32
 }
 
 /// Adds the uses of a term.
-#[tactic(auto, using(crate::proofs::UseLemmas::count_within))]
+#[tactic(auto, using(crate::proofs::UseLemmas::count_within, std::proofs::lemmas::Bool::and_parts))]
 #[cycle(term_uses)]
 fn add_term<'a>(
     list: &mut Vec<SpelledUse<'a>>,
@@ -156,7 +156,7 @@ fn add_terms<'a>(
 }
 
 /// Adds the uses of a test.
-#[tactic(auto, using(crate::proofs::UseLemmas::count_within))]
+#[tactic(auto, using(crate::proofs::UseLemmas::count_within, std::proofs::lemmas::Bool::and_parts))]
 fn add_test<'a>(
     list: &mut Vec<SpelledUse<'a>>,
     text: &'a [u8],
@@ -208,6 +208,7 @@ trait UsesNames {
 }
 
 /// Adds the uses of parts of one line.
+#[tactic(auto, using(sequence::proofs::Passes::map_passes_within, sequence::proofs::Lists::part_is_few))]
 fn add_all<'a, U: UsesNames>(
     list: &mut Vec<SpelledUse<'a>>,
     text: &'a [u8],
@@ -226,6 +227,7 @@ fn add_all<'a, U: UsesNames>(
 }
 
 /// Adds the uses of parts that have a line each, the first of which has this number.
+#[tactic(auto, using(sequence::proofs::Passes::map_passes_within, crate::proofs::UseLemmas::line_is_few, crate::proofs::UseLemmas::lines_left, sequence::proofs::Lists::written_step))]
 fn add_lines<'a, U: UsesNames>(
     list: &mut Vec<SpelledUse<'a>>,
     text: &'a [u8],
@@ -253,6 +255,7 @@ impl UsesNames for SpelledUpdate {
 
     ghost uses = { update_uses };
 
+    #[tactic(auto, using(std::proofs::lemmas::Bool::and_parts))]
     fn add_uses<'a>(
         &self,
         list: &mut Vec<SpelledUse<'a>>,
@@ -273,6 +276,7 @@ impl UsesNames for SpelledListed {
 
     ghost uses = { listed_uses };
 
+    #[tactic(auto, using(std::proofs::lemmas::Bool::and_parts))]
     fn add_uses<'a>(
         &self,
         list: &mut Vec<SpelledUse<'a>>,
@@ -330,6 +334,7 @@ impl UsesNames for SpelledWindow {
 
     ghost uses = { window_uses };
 
+    #[tactic(auto, using(std::proofs::lemmas::Bool::and_parts))]
     fn add_uses<'a>(
         &self,
         list: &mut Vec<SpelledUse<'a>>,
@@ -366,6 +371,7 @@ impl UsesNames for SpelledNode {
 }
 
 /// Adds the signals that lines declare, the first of which has this number.
+#[tactic(auto, using(sequence::proofs::Passes::passes_within))]
 fn add_declared<'a>(
     list: &mut Vec<SpelledUse<'a>>,
     text: &'a [u8],
@@ -383,6 +389,25 @@ fn add_declared<'a>(
     Ok(())
 }
 
+/// Adds the signals that the lines of a text declare.
+fn add_all_declared<'a>(
+    list: &mut Vec<SpelledUse<'a>>,
+    text: &'a [u8],
+    listing: &ProgramSyntax,
+) -> Result<(), NoMemory>
+    requires stands { ListingStands text.now (listing_tree listing.now) }
+    requires few { 2 + length (declared (listing_tree listing.now)) < 2 ^ 32 }
+    ensures { OnOk result (map use_view list.new.items
+        ≡ map use_view list.old.items ++ declared_uses text.now 2 (declared (listing_tree listing.now))) }
+{
+    let cells = 2 + listing.inputs.len() as u32;
+    let outputs = cells + listing.cells.len() as u32;
+    add_declared(list, text, 2, &listing.inputs)?;
+    add_declared(list, text, cells, &listing.cells)?;
+    add_declared(list, text, outputs, &listing.outputs)?;
+    Ok(())
+}
+
 /// All uses of the lines of a text. An `Err` says that memory ran out.
 pub(crate) fn all_uses<'a>(
     alloc: Global,
@@ -397,11 +422,7 @@ pub(crate) fn all_uses<'a>(
         map use_view list.items ≡ uses_of text.now (listing_tree listing.now)) }
 {
     let mut list = Vec::new(alloc);
-    let cells = 2 + listing.inputs.len() as u32;
-    let outputs = cells + listing.cells.len() as u32;
-    add_declared(&mut list, text, 2, &listing.inputs)?;
-    add_declared(&mut list, text, cells, &listing.cells)?;
-    add_declared(&mut list, text, outputs, &listing.outputs)?;
+    add_all_declared(&mut list, text, listing)?;
     add_lines(&mut list, text, first_window(listing), &listing.windows)?;
     add_lines(&mut list, text, first_node(listing), &listing.nodes)?;
     Ok(list)

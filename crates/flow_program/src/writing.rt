@@ -43,6 +43,7 @@ pub fn write_program(alloc: Global, program: &Program, names: &Names) -> Result<
 }
 
 /// Appends a line for each signal, with the word and its name.
+#[tactic(auto, using(sequence::proofs::Passes::passes_within, sequence::proofs::Lists::written_step))]
 fn put_declarations(
     out: &mut Vec<u8>,
     names: &Names,
@@ -60,6 +61,7 @@ fn put_declarations(
 }
 
 /// Appends the line of one signal.
+#[tactic(auto, using(crate::proofs::Held::signal_held))]
 fn put_declaration(out: &mut Vec<u8>, names: &Names, word: &[u8], id: u32) -> Result<(), NoMemory>
     requires { IsTrue (signal_fits names.now id) }
     ensures { OnOk result
@@ -72,6 +74,7 @@ fn put_declaration(out: &mut Vec<u8>, names: &Names, word: &[u8], id: u32) -> Re
 }
 
 /// Appends a line for each window.
+#[tactic(auto, using(sequence::proofs::Lists::written_step, sequence::proofs::Lists::left_at))]
 fn put_windows(out: &mut Vec<u8>, names: &Names, windows: &[Window]) -> Result<(), NoMemory>
     requires { IsTrue (list_all (window_is_writable names.now) (map window_tree windows.now)) }
     ensures { OnOk result (out.new.items
@@ -84,6 +87,7 @@ fn put_windows(out: &mut Vec<u8>, names: &Names, windows: &[Window]) -> Result<(
 }
 
 /// Appends a line for each node, numbered from 0.
+#[tactic(auto, using(sequence::proofs::Passes::map_passes_within, sequence::proofs::Lists::written_step, sequence::proofs::Lists::left_at))]
 fn put_nodes(
     out: &mut Vec<u8>,
     names: &Names,
@@ -194,8 +198,15 @@ pub fn put_updates(
     ensures { OnOk result
         (out.new.items ≡ out.old.items ++ updates_text names.now signals.now (map term_tree terms.now)) }
 {
-    for (signal, term) in signals.iter().zip(terms) {
+    let mut signals = signals;
+    let mut terms = terms;
+    while let [signal, more_signals @ ..] = signals {
+        let [term, more_terms @ ..] = terms else {
+            return Ok(());
+        };
         put_spaced_update(out, names, *signal, term)?;
+        signals = more_signals;
+        terms = more_terms;
     }
     Ok(())
 }

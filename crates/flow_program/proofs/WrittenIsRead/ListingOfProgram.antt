@@ -1,20 +1,19 @@
 -- A text that spells a program has a listing, and its lines break no rule.
-use Rattle.std.proofs.Common.{◌≡◌, ℕ, suc, ◌+◌, ◌<◌, ◌≤◌, Bool, true, false, not, ◌&&◌, cond, List, [], ◌∷◌, ◌++◌, refl}
+use Rattle.std.proofs.Common.{◌≡◌, ℕ, ◌+◌, ◌<◌, Bool, true, false, not, ◌&&◌, cond, List, [], ◌∷◌, ◌++◌, refl}
 use Rattle.std.proofs.Common.{ap, sym, subst, ◌∙◌, arith, length, map, flat_map}
 use Rattle.std.proofs.Common.{length-append}
-use Rattle.std.specs.Prelude.{Option, Some, None, option_map, option_and_then, nat_le, codes, slice_get, find, IsTrue}
+use Rattle.std.specs.Prelude.{Option, Some, None, option_map, nat_le, codes, slice_get, find}
 use Rattle.std.specs.List.{list_all, AllByRecursion}
 use Rattle.std.specs.Option.{is_some, option_map_or}
-use Rattle.std.proofs.lemmas.Bool.{and_from, and_parts, lt-ltb, le-ltb}
+use Rattle.std.proofs.lemmas.Bool.{and_from, lt-ltb, le-ltb}
 use Rattle.std.proofs.lemmas.List.{append-nil}
-use Rattle.std.proofs.lemmas.List.Folds.{list_all-map}
-use Rattle.sequence.proofs.Each.{each_joined, each_at, each_from_places, each_weaker, each_left, each_right, each_unmapped}
+use Rattle.std.proofs.lemmas.List.Folds.{list_all-append}
+use Rattle.sequence.proofs.Each.{each_joined, each_at, each_from_places, each_weaker, each_left, each_right, each_unmapped, each_flat_map}
 use Rattle.sequence.proofs.Numbers.{among_place}
 use Rattle.sequence.specs.Numbers.{IsDistinct}
-use Rattle.tsl_terms.specs.Name.{number_of, texts, AreDistinct, Name as NameEntry}
-use Rattle.tsl_terms.specs.Clashes.{with_use, with_uses, added_unless_found, alike_in_kind, same_arity}
+use Rattle.tsl_terms.specs.Name.{number_of, AreDistinct, Name as NameEntry}
+use Rattle.tsl_terms.specs.Clashes.{with_uses, added_unless_found, alike_in_kind, same_arity}
 use Rattle.tsl_terms.specs.WindowTree.{WindowTree, EquatedTree, right_alone}
-use Rattle.tsl_terms.specs.WellFormed.{is_usable_at}
 use Rattle.term_text.specs.TermText.{name_text}
 use Rattle.program_listing.specs.declared.listing.Name.{Name}
 use Rattle.flow_program.specs.declared.reading.ProgramError.{ProgramError}
@@ -26,73 +25,51 @@ use Rattle.flow_program.specs.ProgramText.{program_text}
 use Rattle.program_tree.specs.Writable.{most_states}
 use Rattle.flow_program.specs.ProgramText.{ProgramText}
 use Rattle.program_listing.specs.LineText.{LineTree, head_line, end_line, input, cell, output, window as window_tree_line, ended_pieces}
-use Rattle.program_listing.specs.LineText.{line_is_within, node_lines, state_lines, listing_lines, Stand}
-use Rattle.program_listing.specs.Listing.{name_bytes, declared_entry, declared, PlacedLine, WindowLine, ListingTree, left_step}
-use Rattle.flow_program.specs.Uses.{ProgramUse, question_entry, entries_of_use, names_after, declared_uses, window_uses, windows_uses, nodes_uses}
-use Rattle.flow_program.specs.Uses.{first_declaration, first_window, first_node, first_state, uses_of}
-use Rattle.flow_program.specs.Rules.{first_place, first_line, breaks_order, goes_nowhere, is_nowhere, breaks_updates, place_in}
+use Rattle.program_listing.specs.LineText.{node_lines, state_lines, listing_lines, Stand}
+use Rattle.program_listing.specs.Listing.{name_bytes, declared_entry, declared, IsListing, PlacedLine, WindowLine, ListingTree, left_step}
+use Rattle.flow_program.specs.Uses.{ProgramUse, entries_of_use, names_after}
+use Rattle.flow_program.specs.Uses.{first_window, first_node, first_state, uses_of}
+use Rattle.flow_program.specs.Rules.{first_place, is_nowhere, breaks_updates, place_in}
 use Rattle.flow_program.specs.Rules.{is_cell_within, is_equality_within, right_fits}
 use Rattle.flow_program.specs.Rules.{breaks_window, cell_texts, readable_of, controlled_of}
-use Rattle.flow_program.specs.Rules.{is_unknown, is_unlike, at_line, at_use, over, first_there, line_fault, use_fault, limit_fault}
+use Rattle.flow_program.specs.Rules.{is_unknown, is_unlike, at_line, at_use, first_there, line_fault, use_fault, limit_fault}
 use Rattle.flow_program.specs.Rules.{fault_of}
-use Rattle.std.proofs.lemmas.Option.{same_Some, slice_get-map}
+use Rattle.std.proofs.lemmas.Option.{none-some, same_Some, slice_get-map}
 use Rattle.sequence.proofs.Booleans.{eqb_self}
 use Rattle.sequence.proofs.Places.{slice_get_grown, slice_get_some}
-use Rattle.flow_program.proofs.RuleLemmas.{texts_are as entries_are}
 use Rattle.sequence.proofs.Finds.{find_none}
 use Rattle.sequence.proofs.Places.{slice_get_mapped}
-use Rattle.sequence.proofs.Passes.{list_all_joined, list_all_parts}
+use Rattle.sequence.proofs.Passes.{list_all_parts}
 use Rattle.sequence.proofs.Passes.{passes_at}
 use Rattle.tsl_terms.specs.declared.names.NameKind.{NameKind}
 use Rattle.tsl_terms.specs.declared.names.NameKind.TheVariants.{Signal, Function, Predicate}
-use Rattle.tsl_terms.specs.Name.{same_kind, is_name}
+use Rattle.tsl_terms.specs.Name.{same_kind}
 use Rattle.flow_program.specs.Reading.{GoOnFrom}
 use Rattle.flow_program.specs.internal.Numbering.{Numbered}
-use Rattle.flow_program.proofs.SpelledLines.{eight_joined}
-use Rattle.flow_program.proofs.NumberLemmas.{place_at}
+use Rattle.std.proofs.lemmas.Grind.{flat_map-append}
+use Rattle.std.proofs.Common.{append_assoc}
+use Rattle.flow_program.proofs.KnownUses.{named_is_first}
+use Rattle.tsl_terms.proofs.FirstUses.{first_of, FirstAt, first_at}
 use Rattle.flow_program.proofs.CellPlaces.{placed_some, second_once, AreListed, are_listed, within_alike, rise_alike}
 use Rattle.flow_program.proofs.EquatedLines.{are_equated, test_of_equality, in_order_alike, tests_within, lines_within}
-use Rattle.flow_program.proofs.WrittenIsRead.ListingOfTerms.{entry_of, its_number}
-use Rattle.flow_program.proofs.WrittenIsRead.Runs.{Run, Part, exactly, beside, made}
+use Rattle.flow_program.proofs.WrittenIsRead.ListingOfTerms.{its_number, InNames}
+use Rattle.flow_program.proofs.WrittenIsRead.Runs.{at, Part, exactly, beside, made}
 use Rattle.flow_program.proofs.WrittenIsRead.ListingOfTerms.{HeldUse}
-use Rattle.flow_program.proofs.WrittenIsRead.ListingOfLines.{KeptWindow, kept_window, IsKept, all_within as all_lines_within, lines_held}
-use Rattle.flow_program.proofs.WrittenIsRead.ListingOfLines.{window_line_within, AllWindows, windows_part, KeptNode, ListingOfNodes, nodes_part}
-use Rattle.flow_program.proofs.WrittenIsRead.ListingOfLines.{declared_use, AllDeclared, declared_part}
-use Rattle.flow_program.proofs.WrittenIsRead.ListingOfLines.{states_part, states_within, states_numbered}
+use Rattle.flow_program.proofs.WrittenIsRead.ListingOfLines.{KeptWindow, kept_window, all_windows, windows_part, KeptNode}
+use Rattle.flow_program.proofs.WrittenIsRead.ListingOfLines.{ListingOfNodes, nodes_part, all_declared, declared_part}
+use Rattle.flow_program.proofs.WrittenIsRead.ListingOfTerms.{PartOf}
+use Rattle.flow_program.proofs.UseLemmas.{declared_append}
+use Rattle.flow_program.proofs.WrittenIsRead.ListingOfLines.{states_part, states_within, states_numbered, none_place}
 use Rattle.flow_program.proofs.NumberLemmas.{Parts, parts_of, small_same, there_at, numbered_texts}
-use Rattle.flow_program.proofs.ResolvedProgram.{map_both}
 use Rattle.flow_program.specs.internal.Numbering.{numbered, numbered_test, numbered_left}
 use Rattle.flow_program.specs.internal.Numbering.{numbered_window, numbered_node}
 use Rattle.sequence.specs.Options.{all_there}
 use Rattle.sequence.proofs.Gathered.{length-all_there}
+use Rattle.sequence.proofs.Options.{some_mapped}
 use Rattle.std.proofs.lemmas.List.{length-map}
 use Rattle.tsl_terms.specs.Equality.{equality_in}
 use Rattle.tsl_terms.specs.Congruence.{IsEquality}
 use Rattle.tsl_terms.specs.TermTree.{ProbeTree}
-
--- ---- no fault
-
-pub nothing_there : (f : Option ProgramError) (fs : List (Option ProgramError)) → f ≡ None → first_there fs ≡ None →
-    first_there (f ∷ fs) ≡ None
-nothing_there f fs is rest = ap (λ g. first_there (g ∷ fs)) is ∙ rest
-
-none_place : {X : Type 0} (test : ℕ → X → Bool) (k : ℕ) (xs : List X) →
-    ((i : ℕ) (x : X) → slice_get xs i ≡ Some x → test (k + i) x ≡ false) → first_place test k xs ≡ None
-none_place test k [] h = refl
-none_place {X = X} test k (x ∷ xs) h =
-    let here : k + 0 ≡ k = omega arith in
-    ap (λ b. cond b (Some k) (first_place test (suc k) xs)) (sym (ap (λ j. test j x) here) ∙ h 0 x refl)
-    ∙ none_place test (suc k) xs (λ i y is. ap (λ j. test j y) (next i) ∙ h (suc i) y is)
-  where
-    next : (i : ℕ) → suc k + i ≡ k + suc i
-    next i = omega arith
-
-pub no_fault_line : {X : Type 0} (fault : ℕ → ProgramError) (test : ℕ → X → Bool) (line : ℕ) (xs : List X) →
-    ((i : ℕ) (x : X) → slice_get xs i ≡ Some x → test (0 + i) x ≡ false) → at_line fault (first_line test line xs) ≡ None
-no_fault_line fault test line xs h = ap (λ o. at_line fault (option_map (λ place. line + place) o)) (none_place test 0 xs h)
-
-pub within_over : (fault : ProgramError) (most count : ℕ) → count ≤ most → over fault most count ≡ None
-within_over fault most count h = ap (λ b. cond b (Some fault) None) (le-ltb most count h)
 
 -- ---- what the names of a text are
 
@@ -101,74 +78,50 @@ same_itself Signal = refl
 same_itself Function = refl
 same_itself Predicate = refl
 
--- a name is one of these
-abbrev pub InNames : List NameEntry → NameEntry → Type 0
-InNames names n = (id : ℕ) × (slice_get names id ≡ Some n)
-
-module _ (names : List NameEntry) where
-  added_in : (kept : List NameEntry) (u : NameEntry) (found : Option ℕ) → AllByRecursion (InNames names) kept → InNames names u →
-      AllByRecursion (InNames names) (added_unless_found kept u found)
-  added_in kept u (Some n) each one = each
-  added_in kept u None each one = each_joined (InNames names) kept (u ∷ []) each (one, tt)
-
-  with_uses_in : (us kept : List NameEntry) → AllByRecursion (InNames names) kept → AllByRecursion (InNames names) us →
-      AllByRecursion (InNames names) (with_uses kept us)
-  with_uses_in [] kept each uses = each
-  with_uses_in (u ∷ us) kept each uses = with_uses_in us (with_use kept u) (added_in kept u (number_of kept u.text) each uses.0) uses.1
-
+module _ (names : List NameEntry) (distinct : AreDistinct names) where
   -- the names that get numbers by uses that are held
   named_in : (readable : List ℕ) (us : List ProgramUse) → AllByRecursion (HeldUse names readable) us →
       AllByRecursion (InNames names) (flat_map entries_of_use us)
-  named_in readable [] h = tt
-  named_in readable (u ∷ us) h = ((h.0.id, h.0.there), by u.is_tested refl (named_in readable us h.1)) where
-    by : (t : Bool) → u.is_tested ≡ t → AllByRecursion (InNames names) (flat_map entries_of_use us) →
-        AllByRecursion (InNames names) (cond t (question_entry ∷ []) [] ++ flat_map entries_of_use us)
-    by true e k = (h.0.asked e, k)
-    by false e k = k
+  named_in readable us held =
+      each_flat_map (InNames names) entries_of_use us (each_weaker (HeldUse names readable)
+      (λ u. AllByRecursion (InNames names) (entries_of_use u)) (λ u h. ((h.id, h.there), h.asked)) us held)
 
-  module _ (distinct : AreDistinct names) where
-    -- a name that is there has a number, so it is not added
-    pub all_stay : (us : List NameEntry) → AllByRecursion (InNames names) us → with_uses names us ≡ names
-    all_stay [] h = refl
-    all_stay (u ∷ us) h =
-        ap (λ found. with_uses (added_unless_found names u found) us) (its_number names distinct h.0.0 u h.0.1) ∙ all_stay us h.1
+  -- a name that is there has a number, so it is not added
+  pub all_stay : (us : List NameEntry) → AllByRecursion (InNames names) us → with_uses names us ≡ names
+  all_stay [] h = refl
+  all_stay (u ∷ us) h =
+      ap (λ found. with_uses (added_unless_found names u found) us) (its_number names distinct h.0.0 u h.0.1) ∙ all_stay us h.1
 
-    -- a use is like the name of its text
-    like : (alike : NameEntry → NameEntry → Bool) → ((n : NameEntry) → alike n n ≡ true) → (kept : List NameEntry) →
-        AllByRecursion (InNames names) kept → (readable : List ℕ) (u : ProgramUse) → HeldUse names readable u →
-        is_unlike alike kept u ≡ false
-    like alike itself kept each readable u held = by (number_of kept u.name.text) refl where
-      by_entry : (i : ℕ) → number_of kept u.name.text ≡ Some i → (found : Option NameEntry) → slice_get kept i ≡ found →
-          option_map_or (λ n. not (alike n u.name)) found false ≡ false
-      by_entry i e None f = refl
-      by_entry i e (Some n) f =
-          let stands : slice_get (texts kept) i ≡ Some u.name.text = place_at (texts kept) u.name.text i e in
-          let its : slice_get (texts kept) i ≡ Some n.text = slice_get-map (λ m. m.text) kept i ∙ ap (option_map (λ m. m.text)) f in
-          let text_is : n.text ≡ u.name.text = same_Some n.text u.name.text (sym its ∙ stands) in
-          let one = each_at (InNames names) kept i n each f in
-          let place : one.0 ≡ held.id = distinct one.0 held.id n u.name one.1 held.there text_is in
-          let same : n ≡ u.name = same_Some n u.name (sym one.1 ∙ ap (slice_get names) place ∙ held.there) in
-          ap not (ap (λ m. alike m u.name) same ∙ itself u.name)
+  -- where names go on from given ones, each use that they hold is like the name of its text
+  none_unlike : (alike : NameEntry → NameEntry → Bool) → ((n : NameEntry) → alike n n ≡ true) → (given : List NameEntry) →
+      GoOnFrom given names → (readable : List ℕ) (us : List ProgramUse) → AllByRecursion (HeldUse names readable) us →
+      find (is_unlike alike (names_after given us)) us ≡ None
+  none_unlike alike itself given goes readable us held =
+      find_none (is_unlike alike (names_after given us)) us (each_weaker (HeldUse names readable)
+      (λ u. is_unlike alike (names_after given us) u ≡ false) like us held)
+    where
+      stands : (i : ℕ) (m : NameEntry) → slice_get given i ≡ Some m → slice_get names i ≡ Some m
+      stands i m is = ap (λ ns. slice_get ns i) goes.1 ∙ slice_get_grown given goes.0 i m is
 
-      by : (found : Option ℕ) → number_of kept u.name.text ≡ found → is_unlike alike kept u ≡ false
-      by None e = ap (λ o. option_map_or (λ n. not (alike n u.name)) (option_and_then (slice_get kept) o) false) e
-      by (Some i) e =
-          ap (λ o. option_map_or (λ n. not (alike n u.name)) (option_and_then (slice_get kept) o) false) e
-          ∙ by_entry i e (slice_get kept i) refl
+      all_in : AllByRecursion (InNames names) (given ++ flat_map entries_of_use us)
+      all_in = each_joined (InNames names) given (flat_map entries_of_use us)
+          (each_from_places (InNames names) given (λ i m is. (i, stands i m is))) (named_in readable us held)
 
-    pub none_unlike : (alike : NameEntry → NameEntry → Bool) → ((n : NameEntry) → alike n n ≡ true) → (kept : List NameEntry) →
-        AllByRecursion (InNames names) kept → (readable : List ℕ) (us : List ProgramUse) → AllByRecursion (HeldUse names readable) us →
-        find (is_unlike alike kept) us ≡ None
-    none_unlike alike itself kept each readable us held =
-        find_none (is_unlike alike kept) us (each_weaker (HeldUse names readable) (λ u. is_unlike alike kept u ≡ false)
-        (like alike itself kept each readable) us held)
-
-    -- two numbers of one text are one
-    pub same_id : (r s : ℕ) → signal_fits names r ≡ true → signal_fits names s ≡ true → name_text names r ≡ name_text names s → r ≡ s
-    same_id r s fits too is =
-        let a = entry_of names r Signal 0 (and_parts (is_name names r Signal 0) (is_usable_at names r) fits).0 in
-        let b = entry_of names s Signal 0 (and_parts (is_name names s Signal 0) (is_usable_at names s) too).0 in
-        distinct r s a.entry b.entry a.there b.there (sym a.text ∙ is ∙ b.text)
+      like : (u : ProgramUse) → HeldUse names readable u → is_unlike alike (names_after given us) u ≡ false
+      like u h =
+          ap (λ o. option_map_or (λ n. not (alike n u.name)) o false)
+          (named_is_first given (λ i j m n is too. distinct i j m n (stands i m is) (stands j n too)) us u.name.text)
+          ∙ by (first_of (given ++ flat_map entries_of_use us) u.name.text) refl
+        where
+          by : (found : Option NameEntry) → first_of (given ++ flat_map entries_of_use us) u.name.text ≡ found →
+              option_map_or (λ n. not (alike n u.name)) found false ≡ false
+          by None e = refl
+          by (Some f) e =
+              let first : FirstAt (given ++ flat_map entries_of_use us) u.name.text f = first_at _ u.name.text f e in
+              let one = each_at (InNames names) _ first.at f all_in first.there in
+              let place : one.0 ≡ h.id = distinct one.0 h.id f u.name one.1 h.there (sym first.same) in
+              let same : f ≡ u.name = same_Some f u.name (sym one.1 ∙ ap (slice_get names) place ∙ h.there) in
+              ap not (ap (λ m. alike m u.name) same ∙ itself u.name)
 
 -- ---- windows
 
@@ -210,7 +163,8 @@ module _ (names : List NameEntry) (readable : List ℕ) (text : List ℕ) (cell_
       (rise_alike names text cell_names cells cells_are once w.updates x.updates are ∙ k.rise)))
       (and_from _ _ (right_alone_fits names text w.left x.left w.right x.right parts.left parts.right alone)
       (and_from _ _ within
-      (in_order_alike names text w.equalities x.equalities equal_are (tests_within names text w.right.step w.equalities within) ∙ k.order))))
+      (in_order_alike names text w.equalities x.equalities equal_are (tests_within names text w.right.step w.equalities within)
+      ∙ k.order))))
 
   pub windows_keep : (xs : List WindowTree) (ws : List WindowLine) → all_there (map (numbered_window names text) ws) ≡ Some xs →
       AllByRecursion (HasEqualities names) xs → list_all (window_fits readable cells) xs ≡ true → (i : ℕ) (w : WindowLine) →
@@ -223,39 +177,40 @@ module _ (names : List NameEntry) (readable : List ℕ) (text : List ℕ) (cell_
 -- ---- the whole program
 
 -- no name of the program is declared twice in the text
-declared_apart : (names : List NameEntry) (distinct : AreDistinct names) (text : List ℕ) (ds : List Name) (ids : List ℕ) →
-    map (name_bytes text) ds ≡ map (name_text names) ids → list_all (signal_fits names) ids ≡ true → IsDistinct ids →
-    AreDistinct (map (declared_entry text) ds)
-declared_apart names distinct text ds ids are fits once i j m n is too same =
-    let a = id_at i m is in
-    let b = id_at j n too in
-    let one : a.0 ≡ b.0 = same_id names distinct a.0 b.0 (passes_at (signal_fits names) ids i a.0 fits a.1)
-    (passes_at (signal_fits names) ids j b.0 fits b.1) (a.2 ∙ same
-    ∙ sym b.2) in
+declared_apart : (names : List NameEntry) (text : List ℕ) (ds : List Name) (ids : List ℕ) →
+    all_there (map (numbered names text) ds) ≡ Some ids → IsDistinct ids → AreDistinct (map (declared_entry text) ds)
+declared_apart names text ds ids are once i j m n is too same =
+    let d = slice_get_mapped (declared_entry text) ds i m is in
+    let e = slice_get_mapped (declared_entry text) ds j n too in
+    let a = there_at (numbered names text) ds ids i d.0 are d.1 in
+    let b = there_at (numbered names text) ds ids j e.0 are e.1 in
+    let bytes : name_bytes text d.0 ≡ name_bytes text e.0 = ap (λ f. f.text) d.2 ∙ same ∙ ap (λ f. f.text) (sym e.2) in
+    let one : a.0 ≡ b.0 = same_Some a.0 b.0 (sym a.2 ∙ ap (number_of names) bytes ∙ b.2) in
     once i j b.0 (a.1 ∙ ap Some one) b.1
-  where
-    id_at : (k : ℕ) (e : NameEntry) → slice_get (map (declared_entry text) ds) k ≡ Some e →
-        (id : ℕ) × (slice_get ids k ≡ Some id) × (name_text names id ≡ e.text)
-    id_at k e there =
-        slice_get_mapped (name_text names) ids k e.text
-        (ap (λ ts. slice_get ts k) (sym are) ∙ ap (λ ts. slice_get ts k) (sym (entries_are text ds))
-        ∙ slice_get-map (λ f. f.text) (map (declared_entry text) ds) k ∙ ap (option_map (λ f. f.text)) there)
 
-declared_within : (make : Name → LineTree) → ((n : Name) → line_is_within (make n) ≡ true) → (ats : List Name) →
-    list_all line_is_within (map make ats) ≡ true
-declared_within make is [] = refl
-declared_within make is (at ∷ ats) = and_from (line_is_within (make at)) (list_all line_is_within (map make ats)) (is at)
-    (declared_within make is ats)
+-- the numbers of lists one after another
+both_there : {X Y : Type 0} (f : X → Option Y) (xs ys : List X) (as' bs : List Y) → all_there (map f xs) ≡ Some as' →
+    all_there (map f ys) ≡ Some bs → all_there (map f (xs ++ ys)) ≡ Some (as' ++ bs)
+both_there f [] ys as' bs is too = too ∙ ap (λ zs. Some (zs ++ bs)) (same_Some [] as' is)
+both_there {Y = Y} f (x ∷ xs) ys as' bs is too = by (f x) is (λ cs e. both_there f xs ys cs bs e too) where
+  by : (o : Option Y) → all_there (o ∷ map f xs) ≡ Some as' →
+      ((cs : List Y) → all_there (map f xs) ≡ Some cs → all_there (map f (xs ++ ys)) ≡ Some (cs ++ bs)) →
+      all_there (o ∷ map f (xs ++ ys)) ≡ Some (as' ++ bs)
+  by None there rest = absurd (none-some as' there)
+  by (Some y) there rest =
+      let tail = some_mapped (λ zs. y ∷ zs) (all_there (map f xs)) as' there in
+      ap (option_map (λ zs. y ∷ zs)) (rest tail.0 tail.1) ∙ ap (λ zs. Some (zs ++ bs)) tail.2
+
+-- what is made of eight lists one after another
+eight_joined : {X Y : Type 0} (f : X → List Y) (a b c d e g h k : List X) →
+    ((((((flat_map f a ++ flat_map f b) ++ flat_map f c) ++ flat_map f d) ++ flat_map f e) ++ flat_map f g) ++ flat_map f h) ++ flat_map f k
+    ≡ flat_map f (a ++ (b ++ (c ++ (d ++ (e ++ (g ++ (h ++ k)))))))
+eight_joined f a b c d e g h k = simp (flat_map-append, append_assoc)
 
 -- the listing of a text that spells a program
 pub record ListingOfProgram (text : List ℕ) (names : List NameEntry) (p : ProgramTree) : Type 0 where
   pub listing : ListingTree
-  pub end : ℕ
-  pub stands : Stand (flat_map ended_pieces (listing_lines listing)) (record { at = 0; bytes = text }) (record { at = end; bytes = [] })
-  pub within : IsTrue (list_all line_is_within (listing_lines listing))
-  pub once : AreDistinct (map (declared_entry text) (declared listing))
-  pub has_node : 0 < length listing.nodes
-  pub has_state : 0 < length listing.states
+  pub is_listing : IsListing text listing
   pub numbers : Numbered names text listing p
   pub held_names : AllByRecursion (InNames names) (flat_map entries_of_use (uses_of text listing))
   pub no_fault : (given : List NameEntry) → GoOnFrom given names → fault_of text given listing ≡ None
@@ -264,43 +219,40 @@ module _ (text : List ℕ) (names : List NameEntry) (distinct : AreDistinct name
   abbrev readable : List ℕ
   readable = p.inputs ++ p.cells
 
-  inputs_fit : list_all (signal_fits names) p.inputs ≡ true
-  inputs_fit = (list_all_parts (signal_fits names) p.inputs (p.cells ++ p.outputs) h.is_writable.signals).0
+  abbrev Fit : List ℕ → Type 0
+  Fit ids = list_all (signal_fits names) ids ≡ true
 
-  controlled_fit : list_all (signal_fits names) (p.cells ++ p.outputs) ≡ true
-  controlled_fit = (list_all_parts (signal_fits names) p.inputs (p.cells ++ p.outputs) h.is_writable.signals).1
+  signals_fit : Fit p.inputs × Fit (p.cells ++ p.outputs)
+  signals_fit = list_all_parts (signal_fits names) p.inputs (p.cells ++ p.outputs) h.is_writable.signals
 
-  cells_fit : list_all (signal_fits names) p.cells ≡ true
-  cells_fit = (list_all_parts (signal_fits names) p.cells p.outputs controlled_fit).0
+  controlled_fit : Fit p.cells × Fit p.outputs
+  controlled_fit = list_all_parts (signal_fits names) p.cells p.outputs signals_fit.1
 
-  outputs_fit : list_all (signal_fits names) p.outputs ≡ true
-  outputs_fit = (list_all_parts (signal_fits names) p.cells p.outputs controlled_fit).1
-
-  kept_nodes : (i : ℕ) (x : NodeTree) → slice_get p.nodes i ≡ Some x →
-      KeptNode names distinct readable text (p.cells ++ p.outputs) controlled_fit (length p.states) h.is_writable.few_states (0 + i) x
-  kept_nodes i (branch t l r) is =
-      let place : i ≡ 0 + i = omega arith in
-      let fits = h.is_program.branches_fit i l r t is in
-      (subst (λ k. l < k) place fits.0, subst (λ k. r < k) place fits.1, fits.2)
-  kept_nodes i (assign ts go) is =
-      let fits = h.is_program.assignments_fit i go ts is in
-      (fits.0 ∙ sym (length-append p.cells p.outputs), fits.1, fits.2)
+  kept_nodes : (k i : ℕ) (x : NodeTree) → k ≡ 0 + i → slice_get p.nodes i ≡ Some x →
+      KeptNode names distinct readable text (p.cells ++ p.outputs) signals_fit.1 (length p.states) h.is_writable.few_states k x
+  kept_nodes k i (branch t l r) place is =
+      let fits = h.is_program.branches_fit i l r t is in (omega (arith, fits.0, place), omega (arith, fits.1, place), fits.2)
+  kept_nodes k i (assign ts go) place is =
+      let fits = h.is_program.assignments_fit i go ts is in (fits.0 ∙ sym (length-append p.cells p.outputs), fits.1, fits.2)
 
   -- the lines of the program
+  abbrev Declared : (Name → LineTree) → List ℕ → Type 0
+  Declared make = PartOf names readable (all_declared names distinct readable text make)
+
   record Lines : Type 0 where
-    inputs : AllDeclared names distinct readable text p.inputs
-    cells : AllDeclared names distinct readable text p.cells
-    outputs : AllDeclared names distinct readable text p.outputs
-    windows : AllWindows names distinct readable text p.windows
-    nodes : ListingOfNodes names distinct readable text (p.cells ++ p.outputs) controlled_fit (length p.states) h.is_writable.few_states 0
+    inputs : Declared input p.inputs
+    cells : Declared cell p.cells
+    outputs : Declared output p.outputs
+    windows : PartOf names readable (all_windows names distinct readable text) p.windows
+    nodes : ListingOfNodes names distinct readable text (p.cells ++ p.outputs) signals_fit.1 (length p.states) h.is_writable.few_states 0
         p.nodes
 
   abbrev listing_at : Lines → ListingTree
   listing_at l = record {
-    inputs = l.inputs.lines;
-    cells = l.cells.lines;
-    outputs = l.outputs.lines;
-    windows = l.windows.lines;
+    inputs = l.inputs.line;
+    cells = l.cells.line;
+    outputs = l.outputs.line;
+    windows = l.windows.line;
     nodes = l.nodes.lines;
     states = p.states;
   }
@@ -309,83 +261,62 @@ module _ (text : List ℕ) (names : List NameEntry) (distinct : AreDistinct name
   lines_part =
       let declared = declared_part names distinct readable text in
       made (beside (beside (beside (beside (beside (beside (beside (beside (exactly (codes "tslprogram 1")) (exactly (codes "\n")))
-      (declared (codes "input ") input (λ n. refl) p.inputs inputs_fit)) (declared (codes "cell ") cell (λ n. refl) p.cells cells_fit))
-      (declared (codes "output ") output (λ n. refl) p.outputs outputs_fit))
+      (declared (codes "input ") input (λ n. refl) (λ n. refl) p.inputs signals_fit.0))
+      (declared (codes "cell ") cell (λ n. refl) (λ n. refl) p.cells controlled_fit.0))
+      (declared (codes "output ") output (λ n. refl) (λ n. refl) p.outputs controlled_fit.1))
       (windows_part names distinct readable text p.cells p.windows h.is_writable.windows h.is_program.windows_fit))
-      (nodes_part names distinct readable text (p.cells ++ p.outputs) controlled_fit (length p.states) h.is_writable.few_states 0 p.nodes
+      (nodes_part names distinct readable text (p.cells ++ p.outputs) signals_fit.1 (length p.states) h.is_writable.few_states 0 p.nodes
       (omega (arith, h.is_writable.few_nodes)) h.is_writable.nodes kept_nodes)) (states_part 0 p.states))
-      (beside (exactly (codes "end")) (exactly (codes "\n")))) refl (λ l. flat_map ended_pieces (listing_lines (listing_at l)))
+      (beside (exactly (codes "end")) (exactly (codes "\n")))) refl
       (λ x. record {
         inputs = x.0.0.0.0.0.0.1;
         cells = x.0.0.0.0.0.1;
         outputs = x.0.0.0.0.1;
         windows = x.0.0.0.1;
         nodes = x.0.0.1;
-      }) (λ x. eight_joined ended_pieces (head_line ∷ []) (map input x.0.0.0.0.0.0.1.lines) (map cell x.0.0.0.0.0.1.lines)
-      (map output x.0.0.0.0.1.lines) (map window_tree_line x.0.0.0.1.lines) (node_lines 0 x.0.0.1.lines) (state_lines 0 p.states)
+      }) (λ x. eight_joined ended_pieces (head_line ∷ []) (map input x.0.0.0.0.0.0.1.line) (map cell x.0.0.0.0.0.1.line)
+      (map output x.0.0.0.0.1.line) (map window_tree_line x.0.0.0.1.line) (node_lines 0 x.0.0.1.lines) (state_lines 0 p.states)
       (end_line ∷ []))
 
-  found : (l : Lines) × Run (flat_map ended_pieces (listing_lines (listing_at l))) [] (program_text names p)
-  found = lines_part.runs [] ([], h.text ∙ sym (append-nil (program_text names p)))
+  found : (l : Lines) × Stand (flat_map ended_pieces (listing_lines (listing_at l))) (at [] (program_text names p ++ []))
+      (at (program_text names p) [])
+  found = lines_part.found [] [] (h.text ∙ sym (append-nil (program_text names p)))
 
-  abbrev a : AllDeclared names distinct readable text p.inputs
-  a = found.0.inputs
-
-  abbrev b : AllDeclared names distinct readable text p.cells
-  b = found.0.cells
-
-  abbrev c : AllDeclared names distinct readable text p.outputs
-  c = found.0.outputs
-
-  abbrev w : AllWindows names distinct readable text p.windows
-  w = found.0.windows
-
-  abbrev n : ListingOfNodes names distinct readable text (p.cells ++ p.outputs) controlled_fit (length p.states) h.is_writable.few_states 0
-      p.nodes
-  n = found.0.nodes
+  abbrev lines : Lines
+  lines = found.0
 
   abbrev listing : ListingTree
-  listing = listing_at found.0
+  listing = listing_at lines
 
-  windows_count : length w.lines ≡ length p.windows
+  windows_count : length lines.windows.line ≡ length p.windows
   windows_count =
-      sym (length-all_there (map (numbered_window names text) w.lines) p.windows w.numbered_are
-      ∙ length-map w.lines (numbered_window names text))
+      sym (length-all_there (map (numbered_window names text) lines.windows.line) p.windows lines.windows.numbered_is
+      ∙ length-map lines.windows.line (numbered_window names text))
 
-  nodes_count : length n.lines ≡ length p.nodes
+  nodes_count : length lines.nodes.lines ≡ length p.nodes
   nodes_count =
-      sym (length-all_there (map (numbered_node names text) n.lines) p.nodes n.numbered_are ∙ length-map n.lines (numbered_node names text))
+      sym (length-all_there (map (numbered_node names text) lines.nodes.lines) p.nodes lines.nodes.numbered_are
+      ∙ length-map lines.nodes.lines (numbered_node names text))
 
-  texts_are : (ats : List Name) (ids : List ℕ) → all_there (map (numbered names text) ats) ≡ Some ids →
-      map (name_bytes text) ats ≡ map (name_text names) ids
-  texts_are = numbered_texts names text
+  readable_numbers : all_there (map (numbered names text) (lines.inputs.line ++ lines.cells.line)) ≡ Some readable
+  readable_numbers =
+      both_there (numbered names text) lines.inputs.line lines.cells.line p.inputs p.cells lines.inputs.numbered_is lines.cells.numbered_is
 
   controlled_are : map (name_text names) (p.cells ++ p.outputs) ≡ controlled_of text listing
-  controlled_are = sym (map_both (name_bytes text) (name_text names) b.lines c.lines p.cells p.outputs
-      (texts_are b.lines p.cells b.numbered_are) (texts_are c.lines p.outputs c.numbered_are))
-
-  starts_below : (i m : ℕ) → slice_get p.states i ≡ Some m → m < length p.nodes
-  starts_below i m is = h.is_program.states_fit.1 i m is
+  controlled_are = sym (numbered_texts names text (lines.cells.line ++ lines.outputs.line) (p.cells ++ p.outputs) (both_there
+      (numbered names text) lines.cells.line lines.outputs.line p.cells p.outputs lines.cells.numbered_is lines.outputs.numbered_is))
 
   starts_small : (i m : ℕ) → slice_get p.states i ≡ Some m → m < 65536
-  starts_small i m is = omega (arith, starts_below i m is, h.is_writable.few_nodes)
+  starts_small i m is = omega (arith, h.is_program.states_fit.1 i m is, h.is_writable.few_nodes)
 
   held : AllByRecursion (HeldUse names readable) (uses_of text listing)
   held =
       let joined = each_joined (HeldUse names readable) in
-      let declared_held = each_joined (IsKept names distinct readable text (λ at. true) (declared_use names distinct readable text)) in
-      joined (declared_uses text first_declaration (declared listing) ++ windows_uses text (first_window listing) w.lines)
-      (nodes_uses text (first_node listing) n.lines)
-      (joined (declared_uses text first_declaration (declared listing)) (windows_uses text (first_window listing) w.lines)
-      (lines_held names distinct readable text (λ at. true) (declared_use names distinct readable text) first_declaration (declared listing)
-      (declared_held (a.lines ++ b.lines) c.lines (declared_held a.lines b.lines a.each b.each) c.each))
-      (lines_held names distinct readable text (window_line_within names distinct readable text) (window_uses text) (first_window listing)
-      w.lines w.each))
-      (n.held (first_node listing))
+      simp declared_append (joined _ _ (joined _ _ (joined _ _ (joined _ _ (lines.inputs.held _) (lines.cells.held _))
+      (lines.outputs.held _)) (lines.windows.held _)) (lines.nodes.held _))
 
   readable_are : readable_of text listing ≡ map (name_text names) readable
-  readable_are = map_both (name_bytes text) (name_text names) a.lines b.lines p.inputs p.cells
-      (texts_are a.lines p.inputs a.numbered_are) (texts_are b.lines p.cells b.numbered_are)
+  readable_are = numbered_texts names text (lines.inputs.line ++ lines.cells.line) readable readable_numbers
 
   -- a signal that is read is declared
   known : (u : ProgramUse) → HeldUse names readable u → is_unknown (readable_of text listing) u ≡ false
@@ -396,8 +327,7 @@ module _ (text : List ℕ) (names : List NameEntry) (distinct : AreDistinct name
         let place = among_place readable held_use.id (held_use.read e) in
         let text_is : name_text names held_use.id ≡ u.name.text = ap (λ o. option_map_or (λ m. m.text) o []) held_use.there in
         let stands : slice_get (readable_of text listing) place.0 ≡ Some u.name.text =
-        ap (λ ts. slice_get ts place.0) readable_are ∙ slice_get-map (name_text names) readable place.0
-        ∙ ap (option_map (name_text names)) place.1 ∙ ap Some text_is in
+        simp (readable_are, slice_get-map, place.1, text_is) in
         let found = placed_some (readable_of text listing) place.0 u.name.text stands in
         (λ i. e i && not (is_some (found.1 i)))
 
@@ -405,86 +335,75 @@ module _ (text : List ℕ) (names : List NameEntry) (distinct : AreDistinct name
   all_known = find_none (is_unknown (readable_of text listing)) (uses_of text listing)
       (each_weaker (HeldUse names readable) (λ u. is_unknown (readable_of text listing) u ≡ false) known (uses_of text listing) held)
 
+  -- what a rule of lines tells by the first place that breaks it
+  abbrev told : (ℕ → ProgramError) → ℕ → Option ℕ → Option ProgramError
+  told fault line place = at_line fault (option_map (λ k. line + k) place)
+
   no_line_fault : line_fault text listing ≡ None
   no_line_fault =
-      nothing_there _ _ (no_fault_line ProgramError.Order breaks_order (first_node listing) n.lines (λ i m is. (n.keep i m is).order))
-      (nothing_there _ _
-      (no_fault_line ProgramError.Target (goes_nowhere (length p.states)) (first_node listing) n.lines (λ i m is. (n.keep i m is).go))
-      (nothing_there _ _ (no_fault_line ProgramError.Target (is_nowhere (length n.lines)) (first_state listing) p.states
-      (λ i m is. ap not (lt-ltb m (length n.lines) (subst (λ k. m < k) (sym nodes_count) (starts_below i m is)))))
-      (nothing_there _ _ (no_fault_line ProgramError.Updates (breaks_updates text (controlled_of text listing)) (first_node listing) n.lines
-      (λ i m is. subst (λ ts. breaks_updates text ts (0 + i) m ≡ false) controlled_are (n.keep i m is).updates))
-      (nothing_there _ [] (no_fault_line ProgramError.Window (breaks_window text (cell_texts text listing)) (first_window listing) w.lines
-      (λ i v is. windows_keep names readable text b.lines p.cells b.numbered_are
-      (second_once p.inputs p.cells p.outputs h.is_program.signals_distinct) p.windows w.lines w.numbered_are h.is_writable.equalities h.is_program.windows_fit i v is
-      (0 + i))) refl))))
+      let updates : first_place (breaks_updates text (controlled_of text listing)) 0 lines.nodes.lines ≡ None =
+      subst (λ ts. first_place (breaks_updates text ts) 0 lines.nodes.lines ≡ None) controlled_are lines.nodes.updates in
+      let starts : first_place (is_nowhere (length lines.nodes.lines)) 0 p.states ≡ None =
+      none_place (is_nowhere (length lines.nodes.lines)) p.states (λ k i m is.
+      ap not (lt-ltb m (length lines.nodes.lines) (subst (λ n. m < n) (sym nodes_count) (h.is_program.states_fit.1 i m is)))) 0 in
+      let windows : first_place (breaks_window text (cell_texts text listing)) 0 lines.windows.line ≡ None =
+      none_place (breaks_window text (cell_texts text listing)) lines.windows.line (λ k i w is.
+      windows_keep names readable text lines.cells.line p.cells lines.cells.numbered_is
+      (second_once p.inputs p.cells p.outputs h.is_program.signals_distinct) p.windows lines.windows.line lines.windows.numbered_is
+      h.is_writable.equalities h.is_program.windows_fit i w is k) 0 in
+      λ i. first_there (told ProgramError.Order (first_node listing) (lines.nodes.order i)
+      ∷ told ProgramError.Target (first_node listing) (lines.nodes.go i) ∷ told ProgramError.Target (first_state listing) (starts i)
+      ∷ told ProgramError.Updates (first_node listing) (updates i) ∷ told ProgramError.Window (first_window listing) (windows i) ∷ [])
 
   no_use_fault : (given : List NameEntry) → GoOnFrom given names →
       use_fault (readable_of text listing) (names_after given (uses_of text listing)) (uses_of text listing) ≡ None
-  no_use_fault given goes =
-      let us = uses_of text listing in
-      let kept : AllByRecursion (InNames names) given = each_from_places (InNames names) given
-      (λ i m is. (i, ap (λ ns. slice_get ns i) goes.1 ∙ slice_get_grown given goes.0 i m is)) in
-      let all : AllByRecursion (InNames names) (names_after given us) =
-      with_uses_in names (flat_map entries_of_use us) given kept (named_in names readable us held) in
-      nothing_there (at_use ProgramError.Unknown (find (is_unknown (readable_of text listing)) us)) _
-      (ap (at_use ProgramError.Unknown) all_known)
-      (nothing_there (at_use ProgramError.Kind (find (is_unlike alike_in_kind (names_after given us)) us)) _
-      (ap (at_use ProgramError.Kind)
-      (none_unlike names distinct alike_in_kind (λ m. same_itself m.kind) (names_after given us) all readable us held))
-      (nothing_there (at_use ProgramError.Arity (find (is_unlike same_arity (names_after given us)) us)) []
-      (ap (at_use ProgramError.Arity)
-      (none_unlike names distinct same_arity (λ m. eqb_self m.arity) (names_after given us) all readable us held)) refl))
+  no_use_fault given goes = λ i. first_there (at_use ProgramError.Unknown (all_known i)
+      ∷ at_use ProgramError.Kind (none_unlike names distinct alike_in_kind (λ m. same_itself m.kind) given goes readable
+      (uses_of text listing) held i)
+      ∷ at_use ProgramError.Arity (none_unlike names distinct same_arity (λ m. eqb_self m.arity) given goes readable
+      (uses_of text listing) held i) ∷ [])
 
   no_limit_fault : limit_fault listing ≡ None
   no_limit_fault =
-      nothing_there _ _ (within_over ProgramError.Windows most_windows (length w.lines)
-      (subst (λ k. k ≤ most_windows) (sym windows_count) h.is_writable.few_windows))
-      (nothing_there _ _ (within_over ProgramError.Nodes most_nodes (length n.lines)
-      (subst (λ k. k ≤ most_nodes) (sym nodes_count) h.is_writable.few_nodes))
-      (nothing_there _ [] (within_over ProgramError.States most_states (length p.states) h.is_writable.few_states) refl))
+      let windows = le-ltb most_windows (length lines.windows.line) (omega (arith, windows_count, h.is_writable.few_windows)) in
+      let nodes = le-ltb most_nodes (length lines.nodes.lines) (omega (arith, nodes_count, h.is_writable.few_nodes)) in
+      let states = le-ltb most_states (length p.states) h.is_writable.few_states in
+      λ i. first_there (cond (windows i) (Some ProgramError.Windows) None ∷ cond (nodes i) (Some ProgramError.Nodes) None
+      ∷ cond (states i) (Some ProgramError.States) None ∷ [])
 
   pub listing_of_program : ListingOfProgram text names p
-  listing_of_program =
-      let declared_are : map (name_bytes text) (declared listing) ≡ map (name_text names) ((p.inputs ++ p.cells) ++ p.outputs) =
-      map_both (name_bytes text) (name_text names) (a.lines ++ b.lines) c.lines (p.inputs ++ p.cells) p.outputs readable_are
-      (texts_are c.lines p.outputs c.numbered_are) in
-      let within = list_all_joined line_is_within in
-      record {
-        listing = listing;
-        end = length (program_text names p);
-        stands = subst (λ bytes. Stand (flat_map ended_pieces (listing_lines listing)) (record { at = 0; bytes = bytes })
-            (record { at = length (program_text names p); bytes = [] })) (append-nil (program_text names p) ∙ sym h.text)
-            (found.1.stands []);
-        within = within (map input a.lines) _ (declared_within input (λ n. refl) a.lines)
-            (within (map cell b.lines) _ (declared_within cell (λ n. refl) b.lines)
-            (within (map output c.lines) _ (declared_within output (λ n. refl) c.lines)
-            (within (map window_tree_line w.lines) _ (list_all-map line_is_within window_tree_line w.lines
-            ∙ all_lines_within names distinct readable text (window_line_within names distinct readable text)
-            (window_uses text) w.lines w.each)
-            (within (node_lines 0 n.lines) _ n.within
-            (within (state_lines 0 p.states) (end_line ∷ []) (states_within 0 p.states (omega
-            (arith, h.is_writable.few_states)) starts_small)
-            refl)))));
-        once = declared_apart names distinct text (declared listing) ((p.inputs ++ p.cells) ++ p.outputs) declared_are
-            (list_all_joined (signal_fits names) (p.inputs ++ p.cells) p.outputs (list_all_joined
-            (signal_fits names) p.inputs p.cells inputs_fit cells_fit) outputs_fit)
-            h.is_program.signals_distinct;
-        has_node = (let first = slice_get_some p.states 0 h.is_program.states_fit.0 in
-            let below = starts_below 0 first.0 first.1 in
-            omega (arith, below, nodes_count));
-        has_state = h.is_program.states_fit.0;
-        numbers = record {
-          inputs = a.numbered_are;
-          cells = b.numbered_are;
-          outputs = c.numbered_are;
-          windows = w.numbered_are;
-          nodes = n.numbered_are;
-          states = states_numbered p.states starts_small;
-        };
-        held_names = named_in names readable (uses_of text listing) held;
-        no_fault = λ given goes.
-            nothing_there (line_fault text listing) _ no_line_fault
-            (nothing_there (use_fault (readable_of text listing) (names_after given (uses_of text listing)) (uses_of text listing)) _
-            (no_use_fault given goes) (nothing_there (limit_fault listing) [] no_limit_fault refl));
-      }
+  listing_of_program = record {
+    listing = listing;
+    is_listing = record {
+      end = length (program_text names p);
+      in_place = subst (λ bytes. Stand (flat_map ended_pieces (listing_lines listing)) (record { at = 0; bytes = bytes })
+          (record { at = length (program_text names p); bytes = [] })) (append-nil (program_text names p) ∙ sym h.text)
+          found.1;
+      within = simp (
+        list_all-append,
+        lines.inputs.within,
+        lines.cells.within,
+        lines.outputs.within,
+        lines.windows.within,
+        lines.nodes.within,
+        states_within 0 p.states (omega (arith, h.is_writable.few_states)) starts_small,
+      );
+      declared_once = declared_apart names text (declared listing) ((p.inputs ++ p.cells) ++ p.outputs)
+          (both_there (numbered names text) (lines.inputs.line ++ lines.cells.line) lines.outputs.line (p.inputs ++ p.cells) p.outputs
+          readable_numbers lines.outputs.numbered_is) h.is_program.signals_distinct;
+      has_node = (let first = slice_get_some p.states 0 h.is_program.states_fit.0 in
+          let below = h.is_program.states_fit.1 0 first.0 first.1 in
+          omega (arith, below, nodes_count));
+      has_state = h.is_program.states_fit.0;
+    };
+    numbers = record {
+      inputs = lines.inputs.numbered_is;
+      cells = lines.cells.numbered_is;
+      outputs = lines.outputs.numbered_is;
+      windows = lines.windows.numbered_is;
+      nodes = lines.nodes.numbered_are;
+      states = states_numbered p.states starts_small;
+    };
+    held_names = named_in names distinct readable (uses_of text listing) held;
+    no_fault = λ given goes i. first_there (no_line_fault i ∷ no_use_fault given goes i ∷ no_limit_fault i ∷ []);
+  }

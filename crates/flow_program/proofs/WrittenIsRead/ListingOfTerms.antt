@@ -1,10 +1,10 @@
 -- Terms and tests of a program stand in the text that spells them, and each name that they use is one of the program's names.
-use Rattle.std.proofs.Common.{◌≡◌, ℕ, ◌+◌, ◌==◌, Bool, true, false, ◌&&◌, ◌||◌, cond, List, [], ◌∷◌, ◌++◌, refl, ap, sym, subst, ◌∙◌}
-use Rattle.std.specs.Prelude.{Option, Some, None, option_map, option_and_then, max, codes, slice_get, IsTrue}
+use Rattle.std.proofs.Common.{◌≡◌, ℕ, ◌+◌, ◌==◌, Bool, true, false, ◌&&◌, cond, List, [], ◌∷◌, ◌++◌, refl, ap, sym, ◌∙◌, inl, inr, if◌then◌else◌}
+use Rattle.std.specs.Prelude.{Option, Some, None, max, codes, slice_get, IsTrue}
 use Rattle.std.specs.List.{AllByRecursion}
 use Rattle.std.specs.Option.{option_map_or}
 use Rattle.std.specs.Str.{bytes_eq}
-use Rattle.std.proofs.lemmas.Bool.{and_parts, eqb-true}
+use Rattle.std.proofs.lemmas.Bool.{and_parts, or_cases, eqb-true}
 use Rattle.std.proofs.lemmas.Option.{none-some}
 use Rattle.sequence.proofs.Bytes.{same_bytes}
 use Rattle.sequence.proofs.Each.{each_joined}
@@ -23,71 +23,70 @@ use Rattle.term_text.specs.TermText.{name_text, argument_text, applied_text, ter
 use Rattle.term_text.specs.TermText.{probe_text}
 use Rattle.sequence.proofs.Options.{some_passes}
 use Rattle.program_listing.specs.declared.listing.Name.{Name as Place}
-use Rattle.program_listing.specs.LineText.{Piece, word, named, argument_pieces, applied_pieces, surface_pieces, surfaces_pieces}
+use Rattle.program_tree.specs.Writable.{probe_is_writable}
+use Rattle.tsl_terms.specs.WellFormed.{deepest}
+use Rattle.std.specs.Prelude.{nat_le}
+use Rattle.std.proofs.Common.{rules}
+use Rattle.program_listing.specs.LineText.{is_shallow}
+use Rattle.program_listing.specs.LineText.{Piece, named, argument_pieces, surface_pieces, surfaces_pieces}
 use Rattle.program_listing.specs.Listing.{SurfaceTermTree, bare, applied, SurfaceTermTrees, no_surfaces, more_surfaces, count_of_surfaces, name_bytes}
 use Rattle.program_listing.specs.Listing.{bracketed_surface, surface_brackets, surfaces_brackets}
-use Rattle.flow_program.specs.Uses.{ProgramUse, read_use, tested_use, applied_use, term_uses, terms_uses, test_uses}
+use Rattle.flow_program.specs.Uses.{ProgramUse, applied_use, term_uses, terms_uses, test_uses}
 use Rattle.flow_program.specs.Uses.{question_entry}
 use Rattle.flow_program.specs.internal.Numbering.{numbered, numbered_term, numbered_terms, numbered_test, probe_with}
 use Rattle.flow_program.proofs.ResolvedLines.{place_at}
-use Rattle.flow_program.proofs.WrittenIsRead.Runs.{Part, nothing, exactly, beside, made, name_at, a_word, a_name, bytes_at}
+use Rattle.flow_program.proofs.WrittenIsRead.Runs.{Part, nothing, exactly, beside, made, a_name}
 
-left_holds : (a : Bool) → (a || false) ≡ true → a ≡ true
-left_holds true h = refl
-left_holds false h = h
+-- A kind of parts of lines: their numbers, their pieces, whether they keep the limits, and their uses on a line.
+pub record Kind (X Y : Type 0) : Type 0 where
+  pub numbered_as : X → Option Y
+  pub pieces : X → List Piece
+  pub is_within : X → Bool
+  pub uses : ℕ → X → List ProgramUse
 
 -- ---- names
 
 kinds_same : (a b : NameKind) → same_kind a b ≡ true → a ≡ b
 kinds_same Signal Signal h = refl
-kinds_same Signal Function h = absurd (cc)
-kinds_same Signal Predicate h = absurd (cc)
-kinds_same Function Signal h = absurd (cc)
 kinds_same Function Function h = refl
-kinds_same Function Predicate h = absurd (cc)
-kinds_same Predicate Signal h = absurd (cc)
-kinds_same Predicate Function h = absurd (cc)
 kinds_same Predicate Predicate h = refl
+kinds_same _ _ h = absurd (cc)
 
 module _ (names : List NameEntry) where
-  -- what stands at the number of a name
-  pub record Entry (id : ℕ) (kind : NameKind) (arity : ℕ) : Type 0 where
-    pub entry : NameEntry
-    pub there : slice_get names id ≡ Some entry
-    pub text : name_text names id ≡ entry.text
-    pub kind_is : entry.kind ≡ kind
-    pub arity_is : entry.arity ≡ arity
-
-  pub entry_of : (id : ℕ) (kind : NameKind) (arity : ℕ) → is_name names id kind arity ≡ true → Entry id kind arity
-  entry_of id kind arity h =
-      let found = some_passes (slice_get names id) (λ n. same_kind n.kind kind && (n.arity == arity)) h in
+  -- what stands at the number of a name with these bytes
+  entry_is : (id : ℕ) (kind : NameKind) (arity : ℕ) (bytes : List ℕ) → is_name names id kind arity ≡ true → bytes ≡ name_text names id →
+      slice_get names id ≡ Some (record { text = bytes; kind = kind; arity = arity })
+  entry_is id kind arity bytes fits is =
+      let found = some_passes (slice_get names id) (λ n. same_kind n.kind kind && (n.arity == arity)) fits in
       let parts = and_parts (same_kind found.0.kind kind) (found.0.arity == arity) found.2 in
-      record {
-        entry = found.0;
-        there = found.1;
-        text = ap (λ o. option_map_or (λ n. n.text) o []) found.1;
-        kind_is = kinds_same found.0.kind kind parts.0;
-        arity_is = eqb-true found.0.arity arity parts.1;
-      }
+      found.1 ∙ (λ i. Some (record {
+        text = sym (is ∙ ap (λ o. option_map_or (λ n. n.text) o []) found.1) i;
+        kind = kinds_same found.0.kind kind parts.0 i;
+        arity = eqb-true found.0.arity arity parts.1 i;
+      }))
 
   pub usable_text : (id : ℕ) → is_usable_at names id ≡ true → is_usable (name_text names id) ≡ true
   usable_text id h =
       let found = some_passes (slice_get names id) (λ n. is_usable n.text) h in
       ap is_usable (ap (λ o. option_map_or (λ n. n.text) o []) found.1) ∙ found.2
 
-  -- a use is of a name of the program, and reads one of these signals
+  -- a name is one of these
+  abbrev pub InNames : NameEntry → Type 0
+  InNames n = (id : ℕ) × (slice_get names id ≡ Some n)
+
+  -- a use is of names of the program, and reads one of these signals
   pub record HeldUse (readable : List ℕ) (u : ProgramUse) : Type 0 where
     pub id : ℕ
     pub there : slice_get names id ≡ Some u.name
-    pub usable : is_usable u.name.text ≡ true
-    pub asked : IsTrue u.is_tested → (q : ℕ) × (slice_get names q ≡ Some question_entry)
+    pub asked : AllByRecursion InNames (if u.is_tested then question_entry ∷ [] else [])
     pub read : IsTrue u.is_read → is_among readable id ≡ true
 
-  -- the name of a use with these bytes
-  pub entry_is : (id : ℕ) (kind : NameKind) (arity : ℕ) (bytes : List ℕ) → (e : Entry id kind arity) → bytes ≡ name_text names id →
-      slice_get names id ≡ Some (record { text = bytes; kind = kind; arity = arity })
-  entry_is id kind arity bytes e is =
-      e.there ∙ (λ i. Some (record { text = sym (is ∙ e.text) i; kind = e.kind_is i; arity = e.arity_is i }))
+  -- a part with these numbers that keeps the limits, and whose uses are held
+  pub record PartOf (readable : List ℕ) {X Y : Type 0} (k : Kind X Y) (y : Y) : Type 0 where
+    pub line : X
+    pub numbered_is : k.numbered_as line ≡ Some y
+    pub within : k.is_within line ≡ true
+    pub held : (n : ℕ) → AllByRecursion (HeldUse readable) (k.uses n line)
 
   -- a name has the number of its place
   pub its_number : (distinct : AreDistinct names) (id : ℕ) (n : NameEntry) → slice_get names id ≡ Some n → number_of names n.text ≡ Some id
@@ -101,6 +100,10 @@ module _ (names : List NameEntry) where
         ap Some (distinct i id other.0 n other.1 there other.2)
 
   module _ (distinct : AreDistinct names) (readable : List ℕ) (text : List ℕ) where
+    -- these bytes spell a part with these numbers
+    abbrev pub Reads : {X Y : Type 0} → Kind X Y → Y → List ℕ → Type 0
+    Reads k y bytes = Part text (λ (l : PartOf readable k y). k.pieces l.line) bytes
+
     -- a name that stands in the text as that of a number
     pub record NameAt (id : ℕ) : Type 0 where
       pub at : Place
@@ -110,253 +113,191 @@ module _ (names : List NameEntry) where
     named_at n = named n.at ∷ []
 
     pub name_part : (id : ℕ) → is_usable_at names id ≡ true → Part text (named_at {id = id}) (name_text names id)
-    name_part id usable = record {
-      runs = λ front occurs. (
-        record { at = name_at front (name_text names id); bytes_are = bytes_at text front (name_text names id) occurs },
-        a_name (name_text names id) (usable_text id usable),
-      );
-    }
+    name_part id usable =
+        a_name (name_text names id) (usable_text id usable) (λ n. n.at) (λ at is. (record { at = at; bytes_are = is }, refl))
 
-    -- it has its number
+    -- it is the name at this number, and has it
+    named_as : (id : ℕ) (kind : NameKind) (arity : ℕ) → is_name names id kind arity ≡ true → (n : NameAt id) →
+        slice_get names id ≡ Some (record { text = name_bytes text n.at; kind = kind; arity = arity })
+    named_as id kind arity fits n = entry_is id kind arity (name_bytes text n.at) fits n.bytes_are
+
     pub number_at : (id : ℕ) (kind : NameKind) (arity : ℕ) → is_name names id kind arity ≡ true → (n : NameAt id) →
         numbered names text n.at ≡ Some id
-    number_at id kind arity fits n =
-        let e = entry_of id kind arity fits in
-        ap (number_of names) (n.bytes_are ∙ e.text) ∙ its_number distinct id e.entry e.there
+    number_at id kind arity fits n = its_number distinct id _ (named_as id kind arity fits n)
 
     -- a use of it is held
-    held_as : (u : ProgramUse) (id : ℕ) (kind : NameKind) (arity : ℕ) (n : NameAt id) →
-        u.name ≡ record { text = name_bytes text n.at; kind = kind; arity = arity } → is_name names id kind arity ≡ true →
-        is_usable_at names id ≡ true → (IsTrue u.is_tested → (q : ℕ) × (slice_get names q ≡ Some question_entry)) →
-        (IsTrue u.is_read → is_among readable id ≡ true) → HeldUse readable u
-    held_as u id kind arity n is fits usable asked read = record {
-      id = id;
-      there = entry_is id kind arity (name_bytes text n.at) (entry_of id kind arity fits) n.bytes_are ∙ ap Some (sym is);
-      usable = ap (λ m. is_usable m.text) is ∙ ap is_usable n.bytes_are ∙ usable_text id usable;
-      asked = asked;
-      read = read;
-    }
-
-    pub applied_held : (line : ℕ) (kind : NameKind) (id arity : ℕ) → is_name names id kind arity ≡ true → is_usable_at names id ≡ true →
-        (n : NameAt id) → HeldUse readable (applied_use text line kind n.at arity)
-    applied_held line kind id arity fits usable n =
-        held_as (applied_use text line kind n.at arity) id kind arity n refl fits usable (λ h. absurd (cc)) (λ h. absurd (cc))
+    pub applied_held : (line : ℕ) (kind : NameKind) (id arity : ℕ) → is_name names id kind arity ≡ true → (n : NameAt id) →
+        HeldUse readable (applied_use text line kind n.at arity)
+    applied_held line kind id arity fits n =
+        record { id = id; there = named_as id kind arity fits n; asked = tt; read = λ h. absurd (cc) }
 
     -- ---- terms
 
-    -- the pieces of an argument, and what follows a name
-    abbrev argument_of : TermTree → List Piece → List Piece
-    argument_of (apply f (more_terms t ts)) pieces = word (codes "(") ∷ (pieces ++ word (codes ")") ∷ [])
-    argument_of (apply f no_terms) pieces = pieces
-    argument_of (signal s) pieces = pieces
+    -- names that stand for those of a term, and the surface term of these
+    abbrev mutual
+      pub NamesOf : TermTree → Type 0
+      NamesOf (signal s) = NameAt s
+      NamesOf (apply f ts) = NameAt f × NamesOfAll ts
 
-    abbrev applied_of : TermTrees → List Piece → List Piece
-    applied_of no_terms pieces = word (codes "()") ∷ []
-    applied_of (more_terms t ts) pieces = pieces
+      pub NamesOfAll : TermTrees → Type 0
+      NamesOfAll no_terms = Unit {0}
+      NamesOfAll (more_terms t ts) = NamesOf t × NamesOfAll ts
 
-    -- a surface term of the form of a term
-    pub record ListingOfTerm (t : TermTree) : Type 0 where
-      pub surface : SurfaceTermTree
-      pub numbered_is : numbered_term names text surface ≡ Some t
-      pub deep : surface_brackets surface ≡ brackets t
-      pub shape : (d : ℕ) → bracketed_surface surface d ≡ bracketed t d
-      pub argument : (pieces : List Piece) → argument_of t pieces ≡ argument_pieces surface pieces
-      pub held : (line : ℕ) → AllByRecursion (HeldUse readable) (term_uses text line surface)
+    abbrev mutual
+      pub surface_of : (t : TermTree) → NamesOf t → SurfaceTermTree
+      surface_of (signal s) n = bare n.at
+      surface_of (apply f ts) n = applied n.0.at (surfaces_of ts n.1)
 
-    record ListingOfTerms (ts : TermTrees) : Type 0 where
-      pub surfaces : SurfaceTermTrees
-      pub numbered_are : numbered_terms names text surfaces ≡ Some ts
-      pub deep : surfaces_brackets surfaces ≡ brackets_of_arguments ts
-      pub count : count_of_surfaces surfaces ≡ count_of_terms ts
-      pub shape : (f : ℕ) (at : Place) (d : ℕ) → bracketed_surface (applied at surfaces) d ≡ bracketed (apply f ts) d
-      pub argument : (f : ℕ) (at : Place) (pieces : List Piece) →
-          argument_of (apply f ts) pieces ≡ argument_pieces (applied at surfaces) pieces
-      pub follow : (pieces : List Piece) → applied_of ts pieces ≡ applied_pieces surfaces pieces
-      pub held : (line : ℕ) → AllByRecursion (HeldUse readable) (terms_uses text line surfaces)
+      pub surfaces_of : (ts : TermTrees) → NamesOfAll ts → SurfaceTermTrees
+      surfaces_of no_terms n = no_surfaces
+      surfaces_of (more_terms t ts) n = more_surfaces (surface_of t n.0) (surfaces_of ts n.1)
 
-    abbrev pub surface_at : {t : TermTree} → ListingOfTerm t → List Piece
-    surface_at l = surface_pieces l.surface
+    -- it has as many arguments, and nests as deep
+    count_is : (ts : TermTrees) (n : NamesOfAll ts) → count_of_surfaces (surfaces_of ts n) ≡ count_of_terms ts
+    count_is no_terms n = refl
+    count_is (more_terms t ts) n = ap (λ k. 1 + k) (count_is ts n.1)
 
-    abbrev surfaces_at : {ts : TermTrees} → ListingOfTerms ts → List Piece
-    surfaces_at l = surfaces_pieces l.surfaces
-
-    -- a name and its arguments
-    abbrev application_at : {f : ℕ} {ts : TermTrees} → NameAt f × ListingOfTerms ts → List Piece
-    application_at x = surface_pieces (applied x.0.at x.1.surfaces)
-
-    application_part : (f : ℕ) (ts : TermTrees) → is_usable_at names f ≡ true → Part text (surfaces_at {ts = ts})
-        (arguments_text names ts) →
-        Part text (application_at {f = f} {ts = ts}) (name_text names f ++ applied_text ts (arguments_text names ts))
-    application_part f ts usable arguments =
-        made (beside (name_part f usable) (behind ts arguments)) refl application_at (λ x. x)
-        (λ x. ap (λ ps. named x.0.at ∷ ps) (x.1.follow (surfaces_at x.1)))
-      where
-        behind : (us : TermTrees) → Part text (surfaces_at {ts = us}) (arguments_text names us) →
-            Part text (λ (l : ListingOfTerms us). applied_of us (surfaces_at l)) (applied_text us (arguments_text names us))
-        behind no_terms arguments = record {
-          runs = λ front occurs. ((arguments.runs front (codes "()" ++ occurs.0, occurs.1)).0, a_word (codes "()"));
-        }
-        behind (more_terms u us) arguments = arguments
-
-    argument_part : (t : TermTree) → Part text (surface_at {t = t}) (term_text names t) →
-        Part text (λ (l : ListingOfTerm t). argument_pieces l.surface (surface_at l)) (argument_text t (term_text names t))
-    argument_part t term = made (around t term) refl (λ l. argument_pieces l.surface (surface_at l)) (λ l. l)
-        (λ l. l.argument (surface_at l))
-      where
-        around : (u : TermTree) → Part text (surface_at {t = u}) (term_text names u) →
-            Part text (λ (l : ListingOfTerm u). argument_of u (surface_at l)) (argument_text u (term_text names u))
-        around (signal s) p = p
-        around (apply f no_terms) p = p
-        around (apply f (more_terms v vs)) p =
-            made (beside (beside (exactly (codes "(")) p) (exactly (codes ")"))) refl
-            (λ l. argument_of (apply f (more_terms v vs)) (surface_at l)) (λ x. x.0.1) (λ x. refl)
+    bracketed_as : (t : TermTree) (n : NamesOf t) (d : ℕ) → bracketed_surface (surface_of t n) d ≡ bracketed t d
+    bracketed_as (signal s) n d = refl
+    bracketed_as (apply f no_terms) n d = refl
+    bracketed_as (apply f (more_terms t ts)) n d = refl
 
     mutual
-      pub term_part : (t : TermTree) → term_fits names t ≡ true → reads_only readable t ≡ true →
-          Part text (surface_at {t = t}) (term_text names t)
-      term_part (signal s) fits reads =
-          let parts = and_parts (is_name names s Signal 0) (is_usable_at names s) fits in
-          made (name_part s parts.1) refl surface_at (λ n. record {
-            surface = bare n.at;
-            numbered_is = ap (option_map signal) (number_at s Signal 0 parts.0 n);
-            deep = refl;
-            shape = λ d. refl;
-            argument = λ pieces. refl;
-            held = λ line. (held_as (read_use text line n.at) s Signal 0 n refl parts.0 parts.1 (λ h. absurd (cc)) (λ h. reads), tt);
-          }) (λ n. refl)
-      term_part (apply f ts) fits reads =
-          let parts = and_parts (is_name names f Function (count_of_terms ts) && is_usable_at names f) (terms_fit names ts) fits in
-          let name = and_parts (is_name names f Function (count_of_terms ts)) (is_usable_at names f) parts.0 in
-          made (application_part f ts name.1 (terms_part ts parts.1 reads)) refl surface_at (λ x. record {
-            surface = applied x.0.at x.1.surfaces;
-            numbered_is = ap (option_and_then (λ n. option_map (apply n) (numbered_terms names text x.1.surfaces)))
-                (number_at f Function (count_of_terms ts) name.0 x.0) ∙ ap (option_map (apply f)) x.1.numbered_are;
-            deep = x.1.deep;
-            shape = x.1.shape f x.0.at;
-            argument = x.1.argument f x.0.at;
-            held = λ line. (
-              subst (λ n. HeldUse readable (applied_use text line Function x.0.at n)) (sym x.1.count)
-                  (applied_held line Function f (count_of_terms ts) name.0 name.1 x.0),
-              x.1.held line,
-            );
-          }) (λ x. refl)
+      pub as_deep : (t : TermTree) (n : NamesOf t) → surface_brackets (surface_of t n) ≡ brackets t
+      as_deep (signal s) n = refl
+      as_deep (apply f ts) n = all_deep ts n.1
 
-      terms_part : (ts : TermTrees) → terms_fit names ts ≡ true → read_only readable ts ≡ true →
-          Part text (surfaces_at {ts = ts}) (arguments_text names ts)
-      terms_part no_terms fits reads = made nothing refl surfaces_at (λ u. record {
-        surfaces = no_surfaces;
-        numbered_are = refl;
-        deep = refl;
-        count = refl;
-        shape = λ f at d. refl;
-        argument = λ f at pieces. refl;
-        follow = λ pieces. refl;
-        held = λ line. tt;
-      }) (λ u. refl)
-      terms_part (more_terms t ts) fits reads =
-          let fit = and_parts (term_fits names t) (terms_fit names ts) fits in
-          let read = and_parts (reads_only readable t) (read_only readable ts) reads in
-          made (beside (beside (exactly (codes " ")) (argument_part t (term_part t fit.0 read.0))) (terms_part ts fit.1 read.1)) refl
-          surfaces_at (λ x. record {
-            surfaces = more_surfaces x.0.1.surface x.1.surfaces;
-            numbered_are = ap (option_and_then (λ tree. option_map (more_terms tree) (numbered_terms names text x.1.surfaces)))
-                x.0.1.numbered_is ∙ ap (option_map (more_terms t)) x.1.numbered_are;
-            deep = λ i. max ((ap (bracketed_surface x.0.1.surface) x.0.1.deep ∙ x.0.1.shape (brackets t)) i) (x.1.deep i);
-            count = ap (λ n. 1 + n) x.1.count;
-            shape = λ f at d. refl;
-            argument = λ f at pieces. refl;
-            follow = λ pieces. refl;
-            held = λ line. each_joined (HeldUse readable) (term_uses text line x.0.1.surface) (terms_uses text line x.1.surfaces)
-                (x.0.1.held line) (x.1.held line);
-          }) (λ x. refl)
+      all_deep : (ts : TermTrees) (n : NamesOfAll ts) → surfaces_brackets (surfaces_of ts n) ≡ brackets_of_arguments ts
+      all_deep no_terms n = refl
+      all_deep (more_terms t ts) n =
+          λ i. max ((ap (bracketed_surface (surface_of t n.0)) (as_deep t n.0) ∙ bracketed_as t n.0 (brackets t)) i) (all_deep ts n.1 i)
+
+    -- it has the numbers of the term
+    mutual
+      pub term_numbered : (t : TermTree) (n : NamesOf t) → term_fits names t ≡ true → numbered_term names text (surface_of t n) ≡ Some t
+      term_numbered (signal s) n fits = simp (number_at s Signal 0 (search rules) n)
+      term_numbered (apply f ts) n fits =
+          simp (number_at f Function (count_of_terms ts) (search rules) n.0, terms_numbered ts n.1 (search rules))
+
+      terms_numbered : (ts : TermTrees) (n : NamesOfAll ts) → terms_fit names ts ≡ true →
+          numbered_terms names text (surfaces_of ts n) ≡ Some ts
+      terms_numbered no_terms n fits = refl
+      terms_numbered (more_terms t ts) n fits = simp (term_numbered t n.0 (search rules), terms_numbered ts n.1 (search rules))
+
+    -- its uses are held
+    mutual
+      pub term_held : (t : TermTree) (n : NamesOf t) → term_fits names t ≡ true → reads_only readable t ≡ true → (line : ℕ) →
+          AllByRecursion (HeldUse readable) (term_uses text line (surface_of t n))
+      term_held (signal s) n fits reads line =
+          (record { id = s; there = named_as s Signal 0 (search rules) n; asked = tt; read = λ h. reads }, tt)
+      term_held (apply f ts) n fits reads line = (
+        applied_held line Function f _ (ap (is_name names f Function) (count_is ts n.1) ∙ (search rules)) n.0,
+        terms_held ts n.1 (search rules) reads line,
+      )
+
+      terms_held : (ts : TermTrees) (n : NamesOfAll ts) → terms_fit names ts ≡ true → read_only readable ts ≡ true → (line : ℕ) →
+          AllByRecursion (HeldUse readable) (terms_uses text line (surfaces_of ts n))
+      terms_held no_terms n fits reads line = tt
+      terms_held (more_terms t ts) n fits reads line =
+          each_joined (HeldUse readable) (term_uses text line (surface_of t n.0)) (terms_uses text line (surfaces_of ts n.1))
+          (term_held t n.0 (search rules) (search rules) line) (terms_held ts n.1 (search rules) (search rules) line)
+
+    -- it stands where the term is spelled
+    abbrev Term : TermTree → List ℕ → Type 0
+    Term t bytes = Part text (λ (n : NamesOf t). surface_pieces (surface_of t n)) bytes
+
+    abbrev Terms : TermTrees → List ℕ → Type 0
+    Terms ts bytes = Part text (λ (n : NamesOfAll ts). surfaces_pieces (surfaces_of ts n)) bytes
+
+    application_part : (f : ℕ) (ts : TermTrees) → is_usable_at names f ≡ true → Terms ts (arguments_text names ts) →
+        Term (apply f ts) (name_text names f ++ applied_text ts (arguments_text names ts))
+    application_part f no_terms usable arguments =
+        made (beside (name_part f usable) (exactly (codes "()"))) refl (λ x. (x.0, tt)) (λ x. refl)
+    application_part f (more_terms t ts) usable arguments = beside (name_part f usable) arguments
+
+    argument_part : (t : TermTree) → Term t (term_text names t) →
+        Part text (λ (n : NamesOf t). argument_pieces (surface_of t n) (surface_pieces (surface_of t n)))
+        (argument_text t (term_text names t))
+    argument_part (signal s) term = term
+    argument_part (apply f no_terms) term = term
+    argument_part (apply f (more_terms t ts)) term =
+        made (beside (beside (exactly (codes "(")) term) (exactly (codes ")"))) refl (λ x. x.0.1) (λ x. refl)
+
+    mutual
+      pub term_part : (t : TermTree) → term_fits names t ≡ true → Term t (term_text names t)
+      term_part (signal s) fits = name_part s (search rules)
+      term_part (apply f ts) fits = application_part f ts (search rules) (terms_part ts (search rules))
+
+      terms_part : (ts : TermTrees) → terms_fit names ts ≡ true → Terms ts (arguments_text names ts)
+      terms_part no_terms fits = nothing
+      terms_part (more_terms t ts) fits =
+          made (beside (beside (exactly (codes " ")) (argument_part t (term_part t (search rules)))) (terms_part ts (search rules))) refl
+          (λ x. (x.0.1, x.1)) (λ x. refl)
 
     -- ---- tests
 
-    pub record ListingOfTest (p : ProbeTree) : Type 0 where
-      pub surface : SurfaceTermTree
-      pub numbered_is : numbered_test names text surface ≡ Some p
-      pub deep : surface_brackets surface ≡ brackets_of_arguments p.arguments
-      pub held : (line : ℕ) → AllByRecursion (HeldUse readable) (test_uses text line surface)
-
-    abbrev pub test_at : {p : ProbeTree} → ListingOfTest p → List Piece
-    test_at l = surface_pieces l.surface
+    abbrev pub tests : Kind SurfaceTermTree ProbeTree
+    tests = record { numbered_as = numbered_test names text; pieces = surface_pieces; is_within = is_shallow; uses = test_uses text }
 
     -- a predicate with its arguments
     application_test : (q : ℕ) (ts : TermTrees) → is_name names q Predicate (count_of_terms ts) ≡ true → terms_fit names ts ≡ true →
-        is_usable_at names q ≡ true → read_only readable ts ≡ true → is_question names q ≡ false →
-        Part text (test_at {p = probe_with q ts}) (probe_text names (probe_with q ts))
-    application_test q ts fits fit usable reads other =
+        is_usable_at names q ≡ true → nat_le (brackets_of_arguments ts) deepest ≡ true → read_only readable ts ≡ true →
+        is_question names q ≡ false → Reads tests (probe_with q ts) (probe_text names (probe_with q ts))
+    application_test q ts fits fit usable flat reads other =
         let probe = probe_with q ts in
-        made (application_part q ts usable (terms_part ts fit reads))
-        (sym (ap (λ b. cond b (question_text names probe ts) (application_text names probe)) other)) test_at (λ x. record {
-          surface = applied x.0.at x.1.surfaces;
-          numbered_is = ap (option_and_then (λ n. option_map (probe_with n) (numbered_terms names text x.1.surfaces)))
-              (number_at q Predicate (count_of_terms ts) fits x.0) ∙ ap (option_map (probe_with q)) x.1.numbered_are;
-          deep = x.1.deep;
+        made (application_part q ts usable (terms_part ts fit))
+        (sym (ap (λ b. cond b (question_text names probe ts) (application_text names probe)) other)) (λ n. record {
+          line = surface_of (apply q ts) n;
+          numbered_is = simp (number_at q Predicate (count_of_terms ts) fits n.0, terms_numbered ts n.1 fit);
+          within = ap (λ k. nat_le k deepest) (all_deep ts n.1) ∙ flat;
           held = λ line. (
-            subst (λ n. HeldUse readable (applied_use text line Predicate x.0.at n)) (sym x.1.count)
-                (applied_held line Predicate q (count_of_terms ts) fits usable x.0),
-            x.1.held line,
+            applied_held line Predicate q _ (ap (is_name names q Predicate) (count_is ts n.1) ∙ fits) n.0,
+            terms_held ts n.1 fit reads line,
           );
-        }) (λ x. refl)
+        }) (λ n. refl)
 
     -- the name of a Boolean signal
     signal_test : (q : ℕ) (ts : TermTrees) → is_name names q Predicate (count_of_terms ts) ≡ true → terms_fit names ts ≡ true →
         are_one_signal ts ≡ true → read_only readable ts ≡ true → is_question names q ≡ true →
-        Part text (test_at {p = probe_with q ts}) (probe_text names (probe_with q ts))
+        Reads tests (probe_with q ts) (probe_text names (probe_with q ts))
     signal_test q (more_terms (signal s) no_terms) fits fit one reads asks =
         let parts = and_parts (term_fits names (signal s)) true fit in
         let name = and_parts (is_name names s Signal 0) (is_usable_at names s) parts.0 in
         let read = and_parts (is_among readable s) true reads in
         let found = some_passes (slice_get names q) (λ n. bytes_eq n.text question) asks in
-        let e : Entry q Predicate 1 = entry_of q Predicate 1 fits in
         let text_is : name_text names q ≡ question =
         ap (λ o. option_map_or (λ n. n.text) o []) found.1 ∙ same_bytes found.0.text question found.2 in
+        let asked = entry_is q Predicate 1 question fits (sym text_is) in
         let arguments = more_terms (signal s) no_terms in
         made (name_part s name.1)
-        (sym (ap (λ b. cond b (name_text names s) (application_text names (probe_with q arguments))) asks)) test_at (λ n. record {
-          surface = bare n.at;
-          numbered_is =
-              ap (option_and_then (λ k. option_map (λ m. probe_with m (more_terms (signal k) no_terms)) (number_of names question)))
-              (number_at s Signal 0 name.0 n)
-              ∙ ap (option_map (λ m. probe_with m arguments)) (ap (number_of names) (sym text_is ∙ e.text)
-              ∙ its_number distinct q e.entry e.there);
-          deep = refl;
-          held = λ line. (
-            held_as (tested_use text line n.at) s Signal 0 n refl name.0 name.1
-                (λ h. (q, entry_is q Predicate 1 question e (sym text_is))) (λ h. read.0),
-            tt,
-          );
+        (sym (ap (λ b. cond b (name_text names s) (application_text names (probe_with q arguments))) asks)) (λ n. record {
+          line = bare n.at;
+          numbered_is = simp (number_at s Signal 0 name.0 n, its_number distinct q question_entry asked);
+          within = refl;
+          held = λ line. (record { id = s; there = named_as s Signal 0 name.0 n; asked = ((q, asked), tt); read = λ h. read.0 }, tt);
         }) (λ n. refl)
-    signal_test q no_terms fits fit one reads asks = absurd (cc)
-    signal_test q (more_terms (apply f as') ts) fits fit one reads asks = absurd (cc)
-    signal_test q (more_terms (signal s) (more_terms t ts)) fits fit one reads asks = absurd (cc)
+    signal_test q _ fits fit one reads asks = absurd (cc)
 
-    question_unusable : (q : ℕ) → is_question names q ≡ true → is_usable_at names q ≡ false
-    question_unusable q asks =
-        let found = some_passes (slice_get names q) (λ n. bytes_eq n.text question) asks in
-        ap (λ o. option_map_or (λ n. is_usable n.text) o false) found.1 ∙ ap is_usable (same_bytes found.0.text question found.2)
+    -- a usable name is not `?`
+    other_than_question : (q : ℕ) → is_usable_at names q ≡ true → is_question names q ≡ false
+    other_than_question q usable = by (is_question names q) refl where
+      by : (b : Bool) → is_question names q ≡ b → is_question names q ≡ false
+      by false e = e
+      by true asks =
+          let found = some_passes (slice_get names q) (λ n. bytes_eq n.text question) asks in
+          let never : is_usable_at names q ≡ false =
+          ap (λ o. option_map_or (λ n. is_usable n.text) o false) found.1 ∙ ap is_usable (same_bytes found.0.text question found.2) in
+          absurd (cc)
 
-    pub test_part : (p : ProbeTree) → probe_fits names p ≡ true → read_only readable p.arguments ≡ true →
-        Part text (test_at {p = p}) (probe_text names p)
-    test_part p fits reads =
+    pub test_part : (p : ProbeTree) → probe_is_writable names p ≡ true → read_only readable p.arguments ≡ true →
+        Reads tests p (probe_text names p)
+    test_part p writable reads =
         let q = p.predicate in
         let ts = p.arguments in
-        let parts = and_parts (is_name names q Predicate (count_of_terms ts) && terms_fit names ts)
-        (is_usable_at names q || (is_question names q && are_one_signal ts)) fits in
+        let both = and_parts (probe_fits names p) (nat_le (brackets_of_arguments ts) deepest) writable in
+        let parts = and_parts (is_name names q Predicate (count_of_terms ts) && terms_fit names ts) _ both.0 in
         let name = and_parts (is_name names q Predicate (count_of_terms ts)) (terms_fit names ts) parts.0 in
-        by (is_question names q) refl name.0 name.1 parts.1
-      where
-        by : (b : Bool) → is_question names p.predicate ≡ b → is_name names p.predicate Predicate (count_of_terms p.arguments) ≡ true →
-            terms_fit names p.arguments ≡ true →
-            (is_usable_at names p.predicate || (is_question names p.predicate && are_one_signal p.arguments)) ≡ true →
-            Part text (test_at {p = p}) (probe_text names p)
-        by true e fit rest one =
-            let either : (is_question names p.predicate && are_one_signal p.arguments) ≡ true =
-            sym (ap (λ b. b || (is_question names p.predicate && are_one_signal p.arguments)) (question_unusable p.predicate e)) ∙ one in
-            signal_test p.predicate p.arguments fit rest (and_parts (is_question names p.predicate)
-            (are_one_signal p.arguments) either).1 reads e
-        by false e fit rest one =
-            application_test p.predicate p.arguments fit rest
-            (left_holds (is_usable_at names p.predicate) (sym (ap (λ b. is_usable_at names p.predicate ||
-            (b && are_one_signal p.arguments)) e) ∙ one)) reads e
+        elim (or_cases (is_usable_at names q) (is_question names q && are_one_signal ts) parts.1) [
+          | inl usable ↦ application_test q ts name.0 name.1 usable both.1 reads (other_than_question q usable)
+          | inr asked ↦ signal_test q ts name.0 name.1 (search rules) reads (search rules)
+        ]

@@ -1,10 +1,6 @@
 -- Pieces that spell bytes, wherever they stand.
 use Rattle.std.proofs.Common.{◌≡◌, ℕ, ◌-◌, true, List, [], ◌∷◌, ◌++◌, length, take, drop, refl, sym, ap, subst, ◌∙◌, arith}
-use Rattle.std.proofs.Common.{append_assoc, length-append, map}
-use Rattle.std.specs.Prelude.{Option, Some, flat_map}
-use Rattle.std.specs.List.{AllByRecursion}
-use Rattle.sequence.specs.Options.{all_there}
-use Rattle.sequence.proofs.Gathered.{all_there_next}
+use Rattle.std.proofs.Common.{append_assoc, length-append}
 use Rattle.std.proofs.lemmas.List.{append-nil}
 use Rattle.std.proofs.Math.Seq.{take-append_seam, drop-append_seam}
 use Rattle.tsl_text.specs.Names.{is_usable}
@@ -17,116 +13,65 @@ use Rattle.program_listing.proofs.Standing.{stand_append}
 abbrev pub at : List ℕ → List ℕ → Place
 at front bytes = record { at = length front; bytes = bytes }
 
--- after these bytes the pieces spell those, whatever follows
-pub record Run (pieces : List Piece) (front spelled : List ℕ) : Type 0 where
-  pub stands : (rest : List ℕ) → Stand pieces (at front (spelled ++ rest)) (at (front ++ spelled) rest)
-
 -- a name that stands after these bytes
 abbrev pub name_at : List ℕ → List ℕ → Name
 name_at front name = record { start = length front; end = length (front ++ name) }
 
-pub no_run : {front : List ℕ} → Run [] front []
-no_run {front = front} = record { stands = λ rest i. at (sym (append-nil front) i) rest }
-
-pub a_word : (w : List ℕ) {front : List ℕ} → Run (word w ∷ []) front w
-a_word w {front = front} =
-    record { stands = λ rest. (rest, refl, λ i. record { at = sym (length-append front w) i; bytes = rest }) }
-
-pub a_name : (name : List ℕ) {front : List ℕ} → is_usable name ≡ true → Run (named (name_at front name) ∷ []) front name
-a_name name {front = front} usable = record {
-  stands = λ rest. (
-    name,
-    rest,
-    refl,
-    usable,
-    λ i. record { start = length front; end = length-append front name i },
-    λ i. record { at = sym (length-append front name) i; bytes = rest },
-  );
-}
-
-pub joined : {xs ys : List Piece} {front a b : List ℕ} → Run xs front a → Run ys (front ++ a) b → Run (xs ++ ys) front (a ++ b)
-joined {xs = xs} {ys = ys} {front = front} {a = a} {b = b} h k = record {
-  stands = λ rest.
-      subst (λ bytes. Stand (xs ++ ys) (at front bytes) (at (front ++ (a ++ b)) rest)) (sym (append_assoc a b rest))
-      (subst (λ before. Stand (xs ++ ys) (at front (a ++ (b ++ rest))) (at before rest)) (append_assoc front a b)
-      (stand_append xs ys (at front (a ++ (b ++ rest))) (at (front ++ a) (b ++ rest)) (at ((front ++ a) ++ b) rest) (h.stands (b ++ rest))
-      (k.stands rest)));
-}
-
--- the bytes stand after these in the text
-abbrev pub Occurs : List ℕ → List ℕ → List ℕ → Type 0
-Occurs text front spelled = (rest : List ℕ) × (text ≡ front ++ (spelled ++ rest))
-
-pub occurs_left : (text front a b : List ℕ) → Occurs text front (a ++ b) → Occurs text front a
-occurs_left text front a b h = (b ++ h.0, h.1 ∙ ap (λ bytes. front ++ bytes) (append_assoc a b h.0))
-
-pub occurs_right : (text front a b : List ℕ) → Occurs text front (a ++ b) → Occurs text (front ++ a) b
-occurs_right text front a b h =
-    (h.0, h.1 ∙ ap (λ bytes. front ++ bytes) (append_assoc a b h.0) ∙ sym (append_assoc front a (b ++ h.0)))
-
--- the bytes of a name that stands there
-pub bytes_at : (text front name : List ℕ) → Occurs text front name → name_bytes text (name_at front name) ≡ name
-bytes_at text front name h =
+-- where the text goes on with these bytes after a front, it has them there
+pub bytes_at : (text front name rest : List ℕ) → text ≡ front ++ (name ++ rest) → name_bytes text (name_at front name) ≡ name
+bytes_at text front name rest is =
     let count : length (front ++ name) - length front ≡ length name = omega (arith, length-append front name) in
     ap (λ n. take n (drop (length front) text)) count
-    ∙ ap (λ bytes. take (length name) (drop (length front) bytes)) h.1
-    ∙ ap (take (length name)) (drop-append_seam front (name ++ h.0))
-    ∙ take-append_seam name h.0
+    ∙ ap (λ bytes. take (length name) (drop (length front) bytes)) is
+    ∙ ap (take (length name)) (drop-append_seam front (name ++ rest))
+    ∙ take-append_seam name rest
 
--- A part of a text: wherever these bytes stand in the text, a value is made whose pieces spell them.
+-- A part of a text: wherever these bytes stand in the text, a value is made whose pieces stand there.
 pub record Part (text : List ℕ) {X : Type 0} (pieces : X → List Piece) (bytes : List ℕ) : Type 0 where
-  pub runs : (front : List ℕ) → Occurs text front bytes → (x : X) × Run (pieces x) front bytes
+  pub found : (front rest : List ℕ) → text ≡ front ++ (bytes ++ rest) →
+      (x : X) × Stand (pieces x) (at front (bytes ++ rest)) (at (front ++ bytes) rest)
 
 pub nothing : {text : List ℕ} → Part text (λ (u : Unit {0}). []) []
-nothing = record { runs = λ front occurs. (tt, no_run) }
+nothing = record { found = λ front rest is. (tt, λ i. at (sym (append-nil front) i) rest) }
 
 pub exactly : {text : List ℕ} (w : List ℕ) → Part text (λ (u : Unit {0}). word w ∷ []) w
-exactly w = record { runs = λ front occurs. (tt, a_word w) }
+exactly w = record {
+  found = λ front rest is. (tt, (rest, refl, λ i. record { at = sym (length-append front w) i; bytes = rest }));
+}
+
+-- a name that may be one, of which is kept what holds of its place
+pub a_name : {text : List ℕ} {X : Type 0} (name : List ℕ) → is_usable name ≡ true → (place : X → Name) →
+    ((n : Name) → name_bytes text n ≡ name → (x : X) × (place x ≡ n)) → Part text (λ x. named (place x) ∷ []) name
+a_name {text = text} name usable place kept = record {
+  found = λ front rest is.
+      let x = kept (name_at front name) (bytes_at text front name rest is) in (
+        x.0,
+        (
+          name,
+          rest,
+          refl,
+          usable,
+          x.1 ∙ (λ i. record { start = length front; end = length-append front name i }),
+          λ i. record { at = sym (length-append front name) i; bytes = rest },
+        ),
+      );
+}
 
 pub beside : {text : List ℕ} {X Y : Type 0} {p : X → List Piece} {q : Y → List Piece} {a b : List ℕ} → Part text p a → Part text q b →
     Part text (λ (both : X × Y). p both.0 ++ q both.1) (a ++ b)
-beside {text = text} {a = a} {b = b} first second = record {
-  runs = λ front occurs.
-      let x = first.runs front (occurs_left text front a b occurs) in
-      let y = second.runs (front ++ a) (occurs_right text front a b occurs) in
-      ((x.0, y.0), joined x.1 y.1);
+beside {p = p} {q = q} {a = a} {b = b} first second = record {
+  found = λ front rest is.
+      let x = first.found front (b ++ rest) (is ∙ simp append_assoc) in
+      let y = second.found (front ++ a) rest (is ∙ simp append_assoc) in
+      let stands = stand_append (p x.0) (q y.0) _ _ _ x.1 y.1 in
+      ((x.0, y.0), simp append_assoc (simp append_assoc at stands));
 }
 
 -- what is made of a part, where the bytes and the pieces are these too
-pub made : {text : List ℕ} {X Y : Type 0} {p : X → List Piece} {a b : List ℕ} → Part text p a → a ≡ b → (q : Y → List Piece) (f : X → Y) →
-    ((x : X) → p x ≡ q (f x)) → Part text q b
-made {text = text} {a = a} part spelled q f same = subst (Part text q) spelled (record {
-  runs = λ front occurs. let x = part.runs front occurs in (f x.0, subst (λ ps. Run ps front a) (same x.0) x.1);
+pub made : {text : List ℕ} {X Y : Type 0} {p : X → List Piece} {q : Y → List Piece} {a b : List ℕ} → Part text p a → a ≡ b →
+    (f : X → Y) → ((x : X) → p x ≡ q (f x)) → Part text q b
+made {text = text} {q = q} {a = a} part spelled f same = subst (Part text q) spelled (record {
+  found = λ front rest is.
+      let x = part.found front rest is in
+      (f x.0, subst (λ ps. Stand ps (at front (a ++ rest)) (at (front ++ a) rest)) (same x.0) x.1);
 })
-
--- ---- lists of parts
-
-module _ {X Y : Type 0} (numbered_as : X → Option Y) (Holds : X → Type 0) where
-  -- what has a number as this, and keeps so much
-  pub record ListingOfOne (y : Y) : Type 0 where
-    pub line : X
-    pub numbered_is : numbered_as line ≡ Some y
-    pub holds : Holds line
-
-  pub record ListingOfAll (ys : List Y) : Type 0 where
-    pub lines : List X
-    pub numbered_are : all_there (map numbered_as lines) ≡ Some ys
-    pub each : AllByRecursion Holds lines
-
-  -- parts one after another
-  pub all_part : {text : List ℕ} (pieces : X → List Piece) (spelled : Y → List ℕ) (ys : List Y) →
-      AllByRecursion (λ y. Part text (λ (l : ListingOfOne y). pieces l.line) (spelled y)) ys →
-      Part text (λ (l : ListingOfAll ys). flat_map pieces l.lines) (flat_map spelled ys)
-  all_part pieces spelled [] each =
-      made nothing refl (λ l. flat_map pieces l.lines) (λ u. record { lines = []; numbered_are = refl; each = tt }) (λ u. refl)
-  all_part pieces spelled (y ∷ ys) each =
-      made (beside each.0 (all_part pieces spelled ys each.1)) refl (λ l. flat_map pieces l.lines) (λ x. record {
-        lines = x.0.line ∷ x.1.lines;
-        numbered_are = all_there_next numbered_as x.0.line x.1.lines y ys x.0.numbered_is x.1.numbered_are;
-        each = (x.0.holds, x.1.each);
-      }) (λ x. refl)
-
--- what is made of the images
-pub flat_map_of_map : {X Y Z : Type 0} (f : Y → List Z) (g : X → Y) (xs : List X) → flat_map (λ x. f (g x)) xs ≡ flat_map f (map g xs)
-flat_map_of_map f g [] = refl
-flat_map_of_map f g (x ∷ xs) = λ i. f (g x) ++ flat_map_of_map f g xs i
