@@ -1,6 +1,8 @@
 mod Examples
 pub mod Held
 pub mod FirstPlaces
+pub mod ValuesOfOptions
+pub mod PairedLists
 pub mod NumberLemmas
 pub mod UseLemmas
 pub mod WithUses
