@@ -1,12 +1,12 @@
 -- The equalities of a window's line and those with numbers: they are equalities alike, stand alike, and are in order alike.
-use Rattle.std.proofs.Common.{◌≡◌, ℕ, ◌+◌, Bool, true, false, not, ◌==◌, ◌&&◌, ◌||◌, List, [], ◌∷◌, map, refl, ap, sym, ◌∙◌, subst}
+use Rattle.std.proofs.Common.{◌≡◌, ℕ, ◌+◌, true, not, ◌==◌, ◌&&◌, ◌||◌, List, map, refl, ap, sym, ◌∙◌}
 use Rattle.std.proofs.Common.{eq-eqb, arith, rules, Option}
 use Rattle.std.specs.Prelude.{Some, option_map, slice_get, nat_le, nat_lt, codes, bytes_eq}
 use Rattle.std.specs.List.{list_all, AllByRecursion}
 use Rattle.std.proofs.lemmas.Bool.{and_parts, and_from, eqb-true, false≢true}
-use Rattle.std.proofs.lemmas.Option.{same_Some, slice_get-map, option_and_then_some}
+use Rattle.std.proofs.lemmas.Option.{slice_get-map}
 use Rattle.sequence.specs.Options.{all_there}
-use Rattle.sequence.proofs.Booleans.{eqb_self}
+use Rattle.sequence.proofs.Booleans.{same_tests}
 use Rattle.sequence.proofs.Bytes.{same_bytes, bytes_same}
 use Rattle.sequence.proofs.Each.{each_weaker}
 use Rattle.sequence.proofs.Passes.{each_from_list_all}
@@ -14,10 +14,10 @@ use Rattle.std.proofs.Math.Bool.{and-true}
 use Rattle.sequence.proofs.Options.{one_value, some_passes}
 use Rattle.tsl_terms.specs.declared.names.NameKind.TheVariants.{Predicate}
 use Rattle.tsl_terms.specs.Name.{number_of, texts, question, is_name, AreDistinct, Name as NameEntry}
-use Rattle.tsl_terms.specs.TermTree.{TermTree, signal, apply, TermTrees, no_terms, more_terms, ProbeTree, count_of_terms}
+use Rattle.tsl_terms.specs.TermTree.{TermTrees, ProbeTree, count_of_terms}
 use Rattle.tsl_terms.specs.SameTree.{same_tree, same_trees, same_probe_tree}
 use Rattle.tsl_terms.specs.WindowTree.{EquatedTree}
-use Rattle.tsl_terms.specs.WellFormed.{is_usable_at, is_question, terms_fit, probe_fits, are_one_signal}
+use Rattle.tsl_terms.specs.WellFormed.{probe_fits}
 use Rattle.tsl_terms.specs.Equality.{names_equality, equality_in}
 use Rattle.tsl_terms.specs.Congruence.{IsEquality}
 use Rattle.tsl_terms.proofs.EqualityLemmas.{found_is_equality, named_so}
@@ -27,7 +27,6 @@ use Rattle.program_listing.specs.Listing.{PlacedLine}
 use Rattle.program_tree.specs.Fits.{may_follow as may_stand_behind, are_in_order as stand_in_order}
 use Rattle.flow_program.specs.Rules.{same_surface, same_surfaces, is_equality_test, is_equality_within, may_follow, are_in_order}
 use Rattle.flow_program.specs.internal.Numbering.{small, numbered, numbered_term, numbered_terms, numbered_test, numbered_equated}
-use Rattle.flow_program.specs.internal.Numbering.{probe_with, equated_of}
 use Rattle.flow_program.proofs.NumberLemmas.{place_at, small_same}
 use Rattle.flow_program.proofs.ValuesOfOptions.{Holds, held, map_holds, then_holds}
 use Rattle.flow_program.proofs.PairedLists.{Paired, none, next, paired_there, paired_with, all_alike}
@@ -60,22 +59,12 @@ module _ (names : List NameEntry) (text : List ℕ) where
 
   same_names : (m n : Name) (r s : ℕ) → numbered names text m ≡ Some r → numbered names text n ≡ Some s →
       bytes_eq (name_bytes text m) (name_bytes text n) ≡ (r == s)
-  same_names m n r s is too = by (bytes_eq (name_bytes text m) (name_bytes text n)) refl (r == s) refl
-    where
-      by : (b : Bool) → bytes_eq (name_bytes text m) (name_bytes text n) ≡ b → (c : Bool) → (r == s) ≡ c → b ≡ c
-      by true e true f = refl
-      by false e false f = refl
-      by true e false f =
-          let number : r ≡ s = one_value (numbered names text n) r s (ap (number_of names) (sym (same_bytes (name_bytes text m)
-          (name_bytes text n) e)) ∙ is) too in
-          absurd (false≢true (sym f ∙ ap (λ k. k == s) number ∙ eqb_self s))
-      by false e true f =
-          let bytes : name_bytes text m ≡ name_bytes text n =
-          one_value (slice_get (texts names) s) (name_bytes text m) (name_bytes text n)
-          (subst (λ k. slice_get (texts names) k ≡ Some (name_bytes text m)) (eqb-true r s f)
-          (place_at (texts names) (name_bytes text m) r is))
-          (place_at (texts names) (name_bytes text n) s too) in
-          absurd (false≢true (sym e ∙ bytes_same (name_bytes text m) (name_bytes text n) bytes))
+  same_names m n r s is too =
+      same_tests (bytes_eq (name_bytes text m) (name_bytes text n)) (r == s)
+      (λ h. eq-eqb r s (one_value (numbered names text n) r s (ap (number_of names) (sym (same_bytes _ _ h)) ∙ is) too))
+      (λ h. bytes_same _ _ (one_value (slice_get (texts names) s) (name_bytes text m) (name_bytes text n)
+      (ap (slice_get (texts names)) (sym (eqb-true r s h)) ∙ place_at (texts names) (name_bytes text m) r is)
+      (place_at (texts names) (name_bytes text n) s too)))
 
   -- whatever two options hold
   abbrev Both : {A B : Type 0} → (A → B → Type 0) → Option A → Option B → Type 0

@@ -1,6 +1,5 @@
 mod Examples
 pub mod Held
-pub mod FirstPlaces
 pub mod ValuesOfOptions
 pub mod PairedLists
 pub mod NumberLemmas
@@ -10,6 +9,7 @@ pub mod KnownUses
 pub mod CellPlaces
 pub mod SpelledLines
 pub mod EquatedLines
+pub mod MadeLists
 pub mod ResolvedTerms
 pub mod ResolvedLines
 pub mod ResolvedNodes

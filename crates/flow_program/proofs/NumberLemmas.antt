@@ -1,11 +1,9 @@
 -- Lists of terms that get numbers member by member, and lines whose parts have them.
-use Rattle.std.proofs.Common.{◌≡◌, zero, suc, ◌^◌, ◌<◌, Bool, true, false, cond, List, [], ◌∷◌, ◌++◌, map, get_or, ap, sym, ◌∙◌, refl}
-use Rattle.std.proofs.Common.{subst}
-use Rattle.std.specs.Prelude.{ℕ, Option, Some, None, option_map, option_and_then, slice_get, bytes_eq, nat_lt}
+use Rattle.std.proofs.Common.{◌≡◌, ◌^◌, ◌<◌, cond, List, [], ◌∷◌, ◌++◌, map, get_or, ap, sym, ◌∙◌, refl, arith}
+use Rattle.std.specs.Prelude.{ℕ, Option, Some, None, option_map, slice_get, bytes_eq}
 use Rattle.std.specs.Option.{option_map_or}
 use Rattle.std.proofs.lemmas.Bool.{lt-ltb}
-use Rattle.std.proofs.lemmas.Option.{none-some, same_Some, option_and_then_some}
-use Rattle.sequence.proofs.Options.{some_mapped}
+use Rattle.std.proofs.lemmas.Grind.{common_steps}
 use Rattle.sequence.proofs.Places.{slice_get_mapped}
 use Rattle.term_text.specs.TermText.{name_text}
 use Rattle.program_listing.specs.declared.listing.Name.{Name as Place}
@@ -42,11 +40,7 @@ pub small_is : (n : ℕ) → n < 2 ^ 32 → small n ≡ Some n
 small_is n h = ap (λ b. cond b (Some n) None) (lt-ltb n (2 ^ 32) h)
 
 pub small_same : (n k : ℕ) → small n ≡ Some k → n ≡ k
-small_same n k is = by (nat_lt n (2 ^ 32)) is
-  where
-    by : (b : Bool) → cond b (Some n) None ≡ Some k → n ≡ k
-    by true e = same_Some n k e
-    by false e = absurd (none-some k e)
+small_same n k is = grind (arith, common_steps)
 
 -- the text at a number is the one that has it
 pub place_at : (all : List (List ℕ)) (bytes : List ℕ) (i : ℕ) → place_in all bytes ≡ Some i → slice_get all i ≡ Some bytes

@@ -1,11 +1,11 @@
 -- Trees with other numbers for their names. What they unfold to has the other numbers too, where no two numbers become one.
-use Rattle.std.proofs.Common.{◌≡◌, ℕ, zero, suc, Bool, true, false, ◌==◌, ◌&&◌, ◌||◌, List, [], ◌∷◌, ◌++◌, map, refl, ap, sym, ◌∙◌}
+use Rattle.std.proofs.Common.{◌≡◌, ℕ, zero, suc, Bool, true, ◌==◌, ◌||◌, List, [], ◌∷◌, ◌++◌, map, refl, ap, sym, ◌∙◌, arith}
 use Rattle.std.proofs.Common.{Option, Some, None}
-use Rattle.std.specs.Prelude.{option_map, find, if◌then◌else◌}
+use Rattle.std.specs.Prelude.{option_map}
 use Rattle.std.specs.List.{AllByRecursion}
-use Rattle.std.proofs.lemmas.Bool.{eqb-true, eq-eqb}
+use Rattle.std.proofs.lemmas.Bool.Decides.{nat_tests}
+use Rattle.std.proofs.lemmas.Grind.{common_steps}
 use Rattle.std.proofs.lemmas.List.{map-append}
-use Rattle.sequence.proofs.Booleans.{same_tests}
 use Rattle.sequence.specs.Numbers.{is_among}
 use Rattle.tsl_terms.specs.TermTree.{TermTree, signal, apply, TermTrees, no_terms, more_terms, ProbeTree}
 use Rattle.tsl_terms.specs.WindowTree.{ListedTree, EquatedTree, WindowTree, right_alone, equality_probes}
@@ -91,10 +91,7 @@ module _ (stands_for : ℕ → ℕ) where
 
   module _ (apart : (s t : ℕ) → stands_for s ≡ stands_for t → s ≡ t) where
     same_test : (s t : ℕ) → (stands_for s == stands_for t) ≡ (s == t)
-    same_test s t =
-        same_tests (stands_for s == stands_for t) (s == t)
-        (λ h. eq-eqb s t (apart s t (eqb-true (stands_for s) (stands_for t) h)))
-        (λ h. eq-eqb (stands_for s) (stands_for t) (ap stands_for (eqb-true s t h)))
+    same_test s t = grind (arith, nat_tests, apart s t)
 
     among_renamed : (cells : List ℕ) (s : ℕ) → is_among (map stands_for cells) (stands_for s) ≡ is_among cells s
     among_renamed [] s = refl
@@ -104,18 +101,7 @@ module _ (stands_for : ℕ → ℕ) where
     listed_is_renamed : (updates : List ListedTree) (offset s : ℕ) →
         term_listed (map listed_renamed updates) offset (stands_for s) ≡ option_map renamed (term_listed updates offset s)
     listed_is_renamed [] offset s = refl
-    listed_is_renamed (u ∷ us) offset s =
-        ap (λ b. option_map (λ v. v.term) (if b && (u.offset == offset) then Some (listed_renamed u) else find
-        (λ v. (v.signal == stands_for s) && (v.offset == offset)) (map listed_renamed us))) (same_test u.signal s)
-        ∙ by (listed_is_renamed us offset s) ((u.signal == s) && (u.offset == offset))
-      where
-        by : term_listed (map listed_renamed us) offset (stands_for s) ≡ option_map renamed (term_listed us offset s) → (b : Bool) →
-            option_map (λ v. v.term) (if b then Some (listed_renamed u) else find
-            (λ v. (v.signal == stands_for s) && (v.offset == offset)) (map listed_renamed us))
-            ≡ option_map renamed (option_map (λ v. v.term) (if b then Some u else find
-            (λ v. (v.signal == s) && (v.offset == offset)) us))
-        by rest true = refl
-        by rest false = rest
+    listed_is_renamed (u ∷ us) offset s = grind (arith, common_steps, same_test u.signal s, listed_is_renamed us offset s)
 
     -- ---- what a term unfolds to
 
@@ -137,15 +123,7 @@ module _ (stands_for : ℕ → ℕ) where
       taken_too = term_taken_by_cell (map stands_for cells) (map listed_renamed updates)
 
       taken_renamed : (offset s : ℕ) → taken_too offset (stands_for s) ≡ option_map renamed (taken offset s)
-      taken_renamed offset s =
-          ap (λ b. if b then term_listed (map listed_renamed updates) offset (stands_for s) else None) (among_renamed cells s)
-          ∙ by (is_among cells s)
-        where
-          by : (b : Bool) →
-              (if b then term_listed (map listed_renamed updates) offset (stands_for s) else None)
-              ≡ option_map renamed (if b then term_listed updates offset s else None)
-          by true = listed_is_renamed updates offset s
-          by false = refl
+      taken_renamed offset s = grind (arith, common_steps, among_renamed cells s, listed_is_renamed updates offset s)
 
       signal_renamed : (step s : ℕ) → signal_unfolded taken_too step (stands_for s) ≡ free_renamed (signal_unfolded taken step s)
       signal_renamed zero s = refl
@@ -199,12 +177,16 @@ module _ (stands_for : ℕ → ℕ) where
         AllByRecursion (IsEquality other) (right_alone (option_map probe_renamed left) (probe_renamed w.right)) →
         SidesAreOne cells equality w left →
         SidesAreOne (map stands_for cells) other (window_renamed w) (option_map probe_renamed left)
-    sides_renamed cells equality other w None equal one =
-        (equal.0, class_renamed _ _ (pairs_renamed cells w.updates w.equalities) _ _
-        (pair_unfolds cells w.updates w.length w.right.arguments) one.1)
-    sides_renamed cells equality other w (Some left) equal one =
-        (ap stands_for one.0, classes_renamed _ _ (pairs_renamed cells w.updates w.equalities) _ _ _ _
-        (unfolds cells w.updates w.left_at left.arguments) (unfolds cells w.updates w.length w.right.arguments) one.1)
+    sides_renamed cells equality other w None equal one = (
+      equal.0,
+      class_renamed _ _ (pairs_renamed cells w.updates w.equalities) _ _
+          (pair_unfolds cells w.updates w.length w.right.arguments) one.1,
+    )
+    sides_renamed cells equality other w (Some left) equal one = (
+      ap stands_for one.0,
+      classes_renamed _ _ (pairs_renamed cells w.updates w.equalities) _ _ _ _
+          (unfolds cells w.updates w.left_at left.arguments) (unfolds cells w.updates w.length w.right.arguments) one.1,
+    )
 
     -- a congruent window is congruent with the other numbers, where what has to be an equality is one
     pub congruent_renamed : (cells : List ℕ) (equality other : Option ℕ) (w : WindowTree) →

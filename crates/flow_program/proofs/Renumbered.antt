@@ -1,16 +1,13 @@
 -- A program text over two lists of names: its windows that are congruent over the first are congruent over the second.
-use Rattle.std.proofs.Common.{◌≡◌, ℕ, ◌+◌, ◌<◌, ◌∷◌, [], List, length, map, ap, sym, ◌∙◌, subst, refl, arith, ◌⊎◌, inl, inr}
-use Rattle.std.specs.Prelude.{Option, Some, None, option_map, option_and_then, slice_get, ⊤}
+use Rattle.std.proofs.Common.{◌≡◌, ℕ, ◌+◌, List, length, map, ap, sym, ◌∙◌, subst, refl, arith, ◌⊎◌, inl, inr}
+use Rattle.std.specs.Prelude.{Option, Some, None, option_map, option_and_then, slice_get}
 use Rattle.std.specs.List.{AllByRecursion}
 use Rattle.std.specs.Option.{option_map_or}
 use Rattle.std.proofs.lemmas.Option.{slice_get_within}
-use Rattle.sequence.specs.Options.{all_there}
 use Rattle.sequence.proofs.Each.{each_map, each_unmapped, each_both}
 use Rattle.sequence.proofs.Options.{one_value}
 use Rattle.sequence.proofs.Places.{slice_get_mapped}
 use Rattle.tsl_terms.specs.Name.{Name, number_of, texts, question, AreDistinct}
-use Rattle.tsl_terms.specs.TermTree.{TermTree, signal, apply, TermTrees, no_terms, more_terms, ProbeTree}
-use Rattle.tsl_terms.specs.WindowTree.{ListedTree, EquatedTree, WindowTree}
 use Rattle.tsl_terms.specs.Equality.{equality_in}
 use Rattle.tsl_terms.specs.Congruence.{IsCongruent}
 use Rattle.program_listing.specs.declared.listing.Name.{Name as Place}
@@ -21,8 +18,8 @@ use Rattle.program_tree.specs.ProgramTree.{ProgramTree}
 use Rattle.program_tree.specs.Writable.{HasEqualities}
 use Rattle.flow_program.specs.ProgramText.{ProgramText}
 use Rattle.flow_program.specs.Reading.{IsReading}
-use Rattle.flow_program.specs.internal.Numbering.{small, numbered, numbered_term, numbered_terms, numbered_test, probe_with}
-use Rattle.flow_program.specs.internal.Numbering.{listed_of, equated_of, window_of, numbered_listed, numbered_equated, numbered_left}
+use Rattle.flow_program.specs.internal.Numbering.{small, numbered, numbered_term, numbered_terms, numbered_test}
+use Rattle.flow_program.specs.internal.Numbering.{numbered_listed, numbered_equated, numbered_left}
 use Rattle.flow_program.specs.internal.Numbering.{numbered_window, Numbered}
 use Rattle.flow_program.proofs.NumberLemmas.{place_at}
 use Rattle.flow_program.proofs.ValuesOfOptions.{Agree, agreed, itself_agrees, map_agrees, then_agrees, all_agree}
