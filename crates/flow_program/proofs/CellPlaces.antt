@@ -1,17 +1,20 @@
 -- The place of a cell among the texts of the cells is its place among their numbers, so listed updates break the same rules in lines and
 -- with numbers.
-use Rattle.std.proofs.Common.{◌≡◌, ℕ, zero, suc, ◌+◌, ◌<◌, ◌==◌, Bool, true, false, not, ◌&&◌, ◌||◌, cond, List, [], ◌∷◌, ◌++◌, refl, ap}
-use Rattle.std.proofs.Common.{sym, subst, ◌∙◌, arith, length, map}
+use Rattle.std.proofs.Common.{◌≡◌, ℕ, zero, suc, ◌<◌, ◌==◌, true, ◌&&◌, ◌||◌, cond, List, [], ◌∷◌, ◌++◌, refl, ap}
+use Rattle.std.proofs.Common.{sym, ◌∙◌, arith, length, map, get_or, inl, inr}
 use Rattle.std.specs.Prelude.{Option, Some, None, option_map, nat_lt, slice_get, bytes_eq}
 use Rattle.std.specs.List.{list_all, position_or_len}
 use Rattle.std.specs.Option.{is_some}
-use Rattle.std.proofs.lemmas.Bool.{and_parts, ltb-true, lt-ltb, eqb-true}
-use Rattle.std.proofs.lemmas.Option.{same_Some, slice_get-map, option_and_then_some}
-use Rattle.sequence.proofs.Booleans.{eqb_self, same_tests}
+use Rattle.std.proofs.lemmas.Bool.Decides.{nat_tests}
+use Rattle.std.proofs.lemmas.Grind.{common_steps}
+use Rattle.std.proofs.lemmas.Bool.{or_cases, and_parts, ltb-true, lt-ltb, eqb-true}
+use Rattle.std.proofs.lemmas.Option.{slice_get-map, slice_get_within, get_or_from_slice_get}
+use Rattle.std.proofs.lemmas.List.Sums.{fails_before_first}
+use Rattle.sequence.proofs.Booleans.{same_tests}
 use Rattle.sequence.proofs.Bytes.{bytes_same}
-use Rattle.sequence.proofs.Numbers.{among_at, among_place}
-use Rattle.sequence.proofs.Options.{some_mapped}
-use Rattle.sequence.proofs.Places.{slice_get_grown, slice_get-append, slice_get_mapped}
+use Rattle.sequence.proofs.Numbers.{among_at, among_place, distinct_front, distinct_behind}
+use Rattle.sequence.proofs.Options.{some_is}
+use Rattle.sequence.proofs.Places.{slice_get_mapped}
 use Rattle.sequence.specs.Numbers.{is_among, IsDistinct}
 use Rattle.sequence.specs.Options.{all_there}
 use Rattle.tsl_terms.specs.Name.{number_of, Name as NameEntry}
@@ -21,29 +24,19 @@ use Rattle.program_listing.specs.declared.listing.Name.{Name}
 use Rattle.program_tree.specs.Fits.{rises, stands_before as stands_among}
 use Rattle.program_listing.specs.Listing.{name_bytes, ListedLine}
 use Rattle.flow_program.specs.Rules.{places_rise, place_in, place_of_cell, listed_rise, is_cell_within}
-use Rattle.flow_program.specs.internal.Numbering.{small, numbered, numbered_term, numbered_listed, listed_of}
-use Rattle.flow_program.proofs.NumberLemmas.{place_at, there_parts, there_at, small_same, number_text, numbered_texts}
+use Rattle.flow_program.specs.internal.Numbering.{small, numbered, numbered_term, numbered_listed}
+use Rattle.flow_program.proofs.NumberLemmas.{place_at, there_at, small_same, number_text, numbered_texts}
+use Rattle.flow_program.proofs.ValuesOfOptions.{held, map_holds, then_holds}
+use Rattle.flow_program.proofs.PairedLists.{Paired, none, next, paired_there, all_alike}
 
 -- ---- places of texts
 
-text_before_end : (ts : List (List ℕ)) (i : ℕ) (t : List ℕ) → slice_get ts i ≡ Some t → position_or_len (bytes_eq t) ts < length ts
-text_before_end [] i t is = absurd (cc)
-text_before_end (x ∷ ts) zero t is =
-    let same : x ≡ t = cc in
-    let first : cond (not (bytes_eq t x)) (1 + position_or_len (bytes_eq t) ts) 0 ≡ 0 =
-    ap (λ b. cond (not b) (1 + position_or_len (bytes_eq t) ts) 0) (bytes_same t x (sym same)) in
-    omega (arith, first)
-text_before_end (x ∷ ts) (suc i) t is = by (bytes_eq t x) (text_before_end ts i t is) where
-  by : (b : Bool) → position_or_len (bytes_eq t) ts < length ts → cond (not b) (1 + position_or_len (bytes_eq t) ts) 0 < suc (length ts)
-  by true h = omega arith
-  by false h = omega (arith, h)
-
 pub placed_some : (ts : List (List ℕ)) (i : ℕ) (t : List ℕ) → slice_get ts i ≡ Some t → (k : ℕ) × (place_in ts t ≡ Some k)
-placed_some ts i t is = (
-  position_or_len (bytes_eq t) ts,
-  ap (λ b. cond b (Some (position_or_len (bytes_eq t) ts)) None) (lt-ltb (position_or_len (bytes_eq t) ts) (length ts)
-      (text_before_end ts i t is)),
-)
+placed_some ts i t is =
+    let within = slice_get_within ts i t is in
+    let same : bytes_eq t (get_or ts i t) ≡ true = bytes_same t (get_or ts i t) (sym (get_or_from_slice_get ts i t t is)) in
+    let before : position_or_len (bytes_eq t) ts < length ts = grind (arith, fails_before_first (bytes_eq t) ts i t) in
+    (position_or_len (bytes_eq t) ts, ap (λ b. cond b (Some (position_or_len (bytes_eq t) ts)) None) (lt-ltb _ _ before))
 
 -- one place stands before the other
 record InOrder (cs : List ℕ) (r s : ℕ) : Type 0 where
@@ -55,62 +48,44 @@ record InOrder (cs : List ℕ) (r s : ℕ) : Type 0 where
 
 in_order : (cs : List ℕ) (r s : ℕ) → stands_among cs r s ≡ true → InOrder cs r s
 in_order [] r s h = absurd (cc)
-in_order (c ∷ cs) r s h = by ((c == r) && is_among cs s) refl h (in_order cs r s) where
-  by : (b : Bool) → ((c == r) && is_among cs s) ≡ b → (b || stands_among cs r s) ≡ true → (stands_among cs r s ≡ true → InOrder cs r s) →
-      InOrder (c ∷ cs) r s
-  by true e k rest =
-      let parts = and_parts (c == r) (is_among cs s) e in
+in_order (c ∷ cs) r s h = elim (or_cases ((c == r) && is_among cs s) (stands_among cs r s) h) [
+  | inl here ↦ (let parts = and_parts (c == r) (is_among cs s) here in
       let place = among_place cs s parts.1 in
-      record { first = 0; second = suc place.0; less = omega arith; at_first = ap Some (eqb-true c r parts.0); at_second = place.1 }
-  by false e k rest =
-      let o : InOrder cs r s = rest k in
-      record { first = suc o.first; second = suc o.second; less = omega (arith, o.less); at_first = o.at_first; at_second = o.at_second }
+      record { first = 0; second = suc place.0; less = omega arith; at_first = ap Some (eqb-true c r parts.0); at_second = place.1 })
+  | inr later ↦ (let o : InOrder cs r s = in_order cs r s later in
+      record { first = suc o.first; second = suc o.second; less = omega (arith, o.less); at_first = o.at_first; at_second = o.at_second })
+]
 
 among_later : (cs : List ℕ) (i j r s : ℕ) → i < j → slice_get cs i ≡ Some r → slice_get cs j ≡ Some s → stands_among cs r s ≡ true
 among_later [] i j r s less at too = absurd (cc)
 among_later (c ∷ cs) zero zero r s less at too = absurd (omega (arith, less))
-among_later (c ∷ cs) zero (suc j) r s less at too =
-    let same : c ≡ r = cc in
-    ap (λ b. (b && is_among cs s) || stands_among cs r s) (ap (λ n. n == r) same ∙ eqb_self r)
-    ∙ ap (λ b. b || stands_among cs r s) (among_at cs j s too)
+among_later (c ∷ cs) zero (suc j) r s less at too = grind (arith, common_steps, nat_tests, among_at cs j s)
 among_later (c ∷ cs) (suc i) zero r s less at too = absurd (omega (arith, less))
-among_later (c ∷ cs) (suc i) (suc j) r s less at too =
-    ap (λ b. ((c == r) && is_among cs s) || b) (among_later cs i j r s (omega (arith, less)) at too) ∙ or_true ((c == r) && is_among cs s)
-  where
-    or_true : (b : Bool) → (b || true) ≡ true
-    or_true true = refl
-    or_true false = refl
+among_later (c ∷ cs) (suc i) (suc j) r s less at too = grind (arith, common_steps, nat_tests, among_later cs i j r s)
 
 -- the second of three lists without a repeat has none
 pub second_once : (a b c : List ℕ) → IsDistinct ((a ++ b) ++ c) → IsDistinct b
-second_once a b c once i j n is too =
-    let e = once (length a + i) (length a + j) n (behind i is) (behind j too) in
-    omega (arith, e)
-  where
-    behind : (k : ℕ) → slice_get b k ≡ Some n → slice_get ((a ++ b) ++ c) (length a + k) ≡ Some n
-    behind k there = slice_get_grown (a ++ b) c (length a + k) n (slice_get-append a b k (length a + k) refl ∙ there)
+second_once a b c once = distinct_behind a b (distinct_front (a ++ b) c once)
+
+rising : (a b : Option ℕ) → places_rise a b ≡ true → (i : ℕ) × (j : ℕ) × (i < j) × (a ≡ Some i) × (b ≡ Some j)
+rising None b h = absurd (cc)
+rising (Some i) None h = absurd (cc)
+rising (Some i) (Some j) h = (i, j, ltb-true i j h, refl, refl)
 
 module _ (names : List NameEntry) (text : List ℕ) where
   -- what is known of listed updates: their numbers and their steps
+  abbrev IsListed : ListedLine → ListedTree → Type 0
+  IsListed u x = (numbered names text u.signal ≡ Some x.signal) × (u.offset ≡ x.offset)
+
   abbrev pub AreListed : List ListedLine → List ListedTree → Type 0
-  AreListed [] [] = Unit {0}
-  AreListed [] (x ∷ xs) = ⊥
-  AreListed (u ∷ us) [] = ⊥
-  AreListed (u ∷ us) (x ∷ xs) = (numbered names text u.signal ≡ Some x.signal) × ((u.offset ≡ x.offset) × AreListed us xs)
+  AreListed = Paired IsListed
 
   pub are_listed : (us : List ListedLine) (xs : List ListedTree) → all_there (map (numbered_listed names text) us) ≡ Some xs →
       AreListed us xs
-  are_listed [] xs is = subst (AreListed []) (same_Some [] xs is) tt
-  are_listed (u ∷ us) xs is =
-      let parts = there_parts (numbered_listed names text) u us xs is in
-      let rest = are_listed us parts.1 parts.3 in
-      subst (AreListed (u ∷ us)) parts.4
-      (option_and_then_some _ (numbered names text u.signal) parts.0 parts.2 (λ s s_is others.
-      option_and_then_some _ (numbered_term names text u.term) parts.0 others (λ t t_is made.
-      let made_of = some_mapped (listed_of s t) (small u.offset) parts.0 made in (
-        s_is ∙ ap (λ (y : ListedTree). Some y.signal) made_of.2,
-        (small_same u.offset made_of.0 made_of.1 ∙ ap (λ (y : ListedTree). y.offset) made_of.2, rest),
-      ))))
+  are_listed =
+      paired_there IsListed (numbered_listed names text) (λ u x is. held (IsListed u) _ x
+      (then_holds _ _ (numbered names text u.signal) (λ s s_is. then_holds _ _ (numbered_term names text u.term) (λ t t_is.
+      map_holds _ _ (small u.offset) (λ n n_is. (s_is, small_same u.offset n n_is))))) is)
 
   module _ (cell_names : List Name) (cells : List ℕ) (are : all_there (map (numbered names text) cell_names) ≡ Some cells) where
     abbrev texts_of_cells : List (List ℕ)
@@ -138,47 +113,35 @@ module _ (names : List NameEntry) (text : List ℕ) where
       is_cell : (u : ListedLine) (s : ℕ) → numbered names text u.signal ≡ Some s →
           is_some (place_of_cell text texts_of_cells u) ≡ is_among cells s
       is_cell u s is =
-          same_tests (is_some (place_of_cell text texts_of_cells u)) (is_among cells s) (by (place_of_cell text texts_of_cells u) refl)
+          same_tests (is_some (place_of_cell text texts_of_cells u)) (is_among cells s)
+          (λ h. let found = some_is (place_of_cell text texts_of_cells u) h in
+          among_at cells found.0 s (place_of_number (name_bytes text u.signal) s found.0 is found.1))
           (λ h. let place = among_place cells s h in ap is_some (cell_place (name_bytes text u.signal) s place.0 is place.1))
-        where
-          by : (found : Option ℕ) → place_of_cell text texts_of_cells u ≡ found → is_some found ≡ true → is_among cells s ≡ true
-          by None e h = absurd (cc)
-          by (Some i) e h = among_at cells i s (place_of_number (name_bytes text u.signal) s i is e)
 
       rise : (u v : ListedLine) (r s : ℕ) → numbered names text u.signal ≡ Some r → numbered names text v.signal ≡ Some s →
           places_rise (place_of_cell text texts_of_cells u) (place_of_cell text texts_of_cells v) ≡ stands_among cells r s
       rise u v r s is too =
           same_tests (places_rise (place_of_cell text texts_of_cells u) (place_of_cell text texts_of_cells v)) (stands_among cells r s)
-          (by (place_of_cell text texts_of_cells u) (place_of_cell text texts_of_cells v) refl refl) (λ h.
-          let o : InOrder cells r s = in_order cells r s h in
+          (λ h. let places = rising (place_of_cell text texts_of_cells u) (place_of_cell text texts_of_cells v) h in
+          among_later cells places.0 places.1 r s places.2 (place_of_number (name_bytes text u.signal) r places.0 is places.3)
+          (place_of_number (name_bytes text v.signal) s places.1 too places.4))
+          (λ h. let o : InOrder cells r s = in_order cells r s h in
           (λ i. places_rise (cell_place (name_bytes text u.signal) r o.first is o.at_first i)
           (cell_place (name_bytes text v.signal) s o.second too o.at_second i)) ∙ lt-ltb o.first o.second o.less)
-        where
-          by : (a b : Option ℕ) → place_of_cell text texts_of_cells u ≡ a → place_of_cell text texts_of_cells v ≡ b →
-              places_rise a b ≡ true → stands_among cells r s ≡ true
-          by None b e f k = absurd (cc)
-          by (Some i) None e f k = absurd (cc)
-          by (Some i) (Some j) e f k =
-              among_later cells i j r s (ltb-true i j k) (place_of_number (name_bytes text u.signal) r i is e)
-              (place_of_number (name_bytes text v.signal) s j too f)
 
       pub within_alike : (n : ℕ) (us : List ListedLine) (xs : List ListedTree) → AreListed us xs →
           list_all (is_cell_within text texts_of_cells n) us ≡ list_all (λ x. nat_lt x.offset n && is_among cells x.signal) xs
-      within_alike n [] [] are_they = refl
-      within_alike n [] (x ∷ xs) are_they = absurd are_they
-      within_alike n (u ∷ us) [] are_they = absurd are_they
-      within_alike n (u ∷ us) (x ∷ xs) are_they =
-          λ i. (nat_lt (are_they.1.0 i) n && is_cell u x.signal are_they.0 i) && within_alike n us xs are_they.1.1 i
+      within_alike n us xs are_they =
+          all_alike (is_cell_within text texts_of_cells n) (λ x. nat_lt x.offset n && is_among cells x.signal)
+          (λ u x a. λ i. nat_lt (a.1 i) n && is_cell u x.signal a.0 i) are_they
+
+      all_rise : {us : List ListedLine} {xs : List ListedTree} → AreListed us xs → listed_rise text texts_of_cells us ≡ rises cells xs
+      all_rise none = refl
+      all_rise (next a none) = refl
+      all_rise (next {x = u} {y = x} a (next {x = v} {y = y} b rest)) =
+          let others = all_rise (next {x = v} {y = y} b rest) in
+          λ i. (nat_lt (a.1 i) (b.1 i) || ((a.1 i == b.1 i) && rise u v x.signal y.signal a.0 b.0 i)) && others i
 
       pub rise_alike : (us : List ListedLine) (xs : List ListedTree) → AreListed us xs →
           listed_rise text texts_of_cells us ≡ rises cells xs
-      rise_alike [] [] are_they = refl
-      rise_alike [] (x ∷ xs) are_they = absurd are_they
-      rise_alike (u ∷ us) [] are_they = absurd are_they
-      rise_alike (u ∷ []) (x ∷ []) are_they = refl
-      rise_alike (u ∷ []) (x ∷ y ∷ xs) are_they = absurd are_they.1.1
-      rise_alike (u ∷ v ∷ us) (x ∷ []) are_they = absurd are_they.1.1
-      rise_alike (u ∷ v ∷ us) (x ∷ y ∷ xs) are_they =
-          let next = are_they.1.1 in
-          λ i. (nat_lt (are_they.1.0 i) (next.1.0 i) || ((are_they.1.0 i == next.1.0 i)
-          && rise u v x.signal y.signal are_they.0 next.0 i)) && rise_alike (v ∷ us) (y ∷ xs) next i
+      rise_alike us xs are_they = all_rise are_they

@@ -21,21 +21,14 @@ written_term_held names t h = term_held names t (and_parts _ _ h).0
 pub written_probe_held : (names : List Name) (p : ProbeTree) → IsTrue (probe_is_writable names p) → IsTrue (probe_is_held names p)
 written_probe_held names p h = probe_held names p (and_parts _ _ h).0
 
-pub listed_held : (names : List Name) (u : ListedTree) → IsTrue (listed_is_writable names u) →
-    IsTrue (is_held names u.signal) × IsTrue (term_is_held names u.term)
-listed_held names u h =
-    let parts = and_parts (signal_fits names u.signal) (term_is_writable names u.term) h in
-    (signal_held names u.signal parts.0, written_term_held names u.term parts.1)
-
 updates_held : (names : List Name) (us : List ListedTree) → IsTrue (list_all (listed_is_writable names) us) →
     IsTrue (list_all (listed_is_held names) us)
 updates_held names us h =
-    list_all_weaker (listed_is_writable names) (listed_is_held names)
-    (λ u k. let both = listed_held names u k in and_from _ _ both.0 both.1) us h
+    list_all_weaker (listed_is_writable names) (listed_is_held names) (λ u k. let parts = and_parts _ _ k in
+    and_from _ _ (signal_held names u.signal parts.0) (written_term_held names u.term parts.1)) us h
 
 pub window_held : (names : List Name) (w : WindowTree) → IsTrue (window_is_writable names w) → IsTrue (window_is_held names w)
 window_held names w h =
-    let parts = and_parts (list_all (probe_is_writable names) (window_probes w)) (list_all (listed_is_writable names) w.updates) h in
-    and_from (list_all (probe_is_held names) (window_probes w)) (list_all (listed_is_held names) w.updates)
-    (list_all_weaker (probe_is_writable names) (probe_is_held names) (written_probe_held names) (window_probes w) parts.0)
+    let parts = and_parts _ _ h in
+    and_from _ _ (list_all_weaker (probe_is_writable names) (probe_is_held names) (written_probe_held names) (window_probes w) parts.0)
     (updates_held names w.updates parts.1)

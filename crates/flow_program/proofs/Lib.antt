@@ -1,6 +1,7 @@
 mod Examples
 pub mod Held
-pub mod FirstPlaces
+pub mod ValuesOfOptions
+pub mod PairedLists
 pub mod NumberLemmas
 pub mod UseLemmas
 pub mod WithUses
@@ -8,6 +9,7 @@ pub mod KnownUses
 pub mod CellPlaces
 pub mod SpelledLines
 pub mod EquatedLines
+pub mod MadeLists
 pub mod ResolvedTerms
 pub mod ResolvedLines
 pub mod ResolvedNodes

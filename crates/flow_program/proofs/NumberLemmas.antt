@@ -1,11 +1,9 @@
 -- Lists of terms that get numbers member by member, and lines whose parts have them.
-use Rattle.std.proofs.Common.{◌≡◌, zero, suc, ◌^◌, ◌<◌, Bool, true, false, cond, List, [], ◌∷◌, ◌++◌, map, get_or, ap, sym, ◌∙◌, refl}
-use Rattle.std.proofs.Common.{subst}
-use Rattle.std.specs.Prelude.{ℕ, Option, Some, None, option_map, option_and_then, slice_get, bytes_eq, nat_lt}
+use Rattle.std.proofs.Common.{◌≡◌, ◌^◌, ◌<◌, cond, List, [], ◌∷◌, ◌++◌, map, get_or, ap, sym, ◌∙◌, refl, arith}
+use Rattle.std.specs.Prelude.{ℕ, Option, Some, None, option_map, slice_get, bytes_eq}
 use Rattle.std.specs.Option.{option_map_or}
 use Rattle.std.proofs.lemmas.Bool.{lt-ltb}
-use Rattle.std.proofs.lemmas.Option.{none-some, same_Some, option_and_then_some}
-use Rattle.sequence.proofs.Options.{some_mapped}
+use Rattle.std.proofs.lemmas.Grind.{common_steps}
 use Rattle.sequence.proofs.Places.{slice_get_mapped}
 use Rattle.term_text.specs.TermText.{name_text}
 use Rattle.program_listing.specs.declared.listing.Name.{Name as Place}
@@ -29,42 +27,20 @@ use Rattle.flow_program.specs.internal.Numbering.{small, numbered, numbered_term
 use Rattle.flow_program.specs.Rules.{place_in}
 use Rattle.flow_program.specs.internal.Numbering.{numbered_equated, numbered_left, numbered_window, numbered_node, listed_of, equated_of}
 use Rattle.flow_program.specs.internal.Numbering.{window_of}
+use Rattle.flow_program.proofs.ValuesOfOptions.{held, map_holds, then_holds}
+use Rattle.flow_program.proofs.PairedLists.{paired_there, paired_at, map_alike}
 
--- ---- lists whose members are all there
-
--- the first of them, and the others
-pub there_parts : {X Y : Type 0} (f : X → Option Y) (x : X) (xs : List X) (ys : List Y) → all_there (map f (x ∷ xs)) ≡ Some ys →
-    (y : Y) × (zs : List Y) × (f x ≡ Some y) × (all_there (map f xs) ≡ Some zs) × (y ∷ zs ≡ ys)
-there_parts {Y = Y} f x xs ys is = by (f x) refl is where
-  by : (o : Option Y) → f x ≡ o → all_there (o ∷ map f xs) ≡ Some ys →
-      (y : Y) × (zs : List Y) × (f x ≡ Some y) × (all_there (map f xs) ≡ Some zs) × (y ∷ zs ≡ ys)
-  by None at there = absurd (none-some ys there)
-  by (Some y) at there =
-      let behind = some_mapped (λ zs. y ∷ zs) (all_there (map f xs)) ys there in (y, behind.0, at, behind.1, behind.2)
-
--- the one at a place
+-- the one that is made of the member at a place
 pub there_at : {X Y : Type 0} (f : X → Option Y) (xs : List X) (ys : List Y) (i : ℕ) (x : X) → all_there (map f xs) ≡ Some ys →
     slice_get xs i ≡ Some x → (y : Y) × (slice_get ys i ≡ Some y) × (f x ≡ Some y)
-there_at f [] ys i x is at = absurd (cc)
-there_at f (z ∷ xs) ys zero x is at =
-    let parts = there_parts f z xs ys is in
-    let same : z ≡ x = cc in
-    (parts.0, ap (λ zs. slice_get zs 0) (sym parts.4), ap f (sym same) ∙ parts.2)
-there_at f (z ∷ xs) ys (suc i) x is at =
-    let parts = there_parts f z xs ys is in
-    let rest = there_at f xs parts.1 i x parts.3 at in
-    (rest.0, ap (λ zs. slice_get zs (suc i)) (sym parts.4) ∙ rest.1, rest.2)
+there_at f xs ys i x is at = paired_at (paired_there (λ x y. f x ≡ Some y) f (λ x y made. made) xs ys is) i x at
 
 -- a number of 32 bits
 pub small_is : (n : ℕ) → n < 2 ^ 32 → small n ≡ Some n
 small_is n h = ap (λ b. cond b (Some n) None) (lt-ltb n (2 ^ 32) h)
 
 pub small_same : (n k : ℕ) → small n ≡ Some k → n ≡ k
-small_same n k is = by (nat_lt n (2 ^ 32)) is
-  where
-    by : (b : Bool) → cond b (Some n) None ≡ Some k → n ≡ k
-    by true e = same_Some n k e
-    by false e = absurd (none-some k e)
+small_same n k is = grind (arith, common_steps)
 
 -- the text at a number is the one that has it
 pub place_at : (all : List (List ℕ)) (bytes : List ℕ) (i : ℕ) → place_in all bytes ≡ Some i → slice_get all i ≡ Some bytes
@@ -96,15 +72,11 @@ module _ (names : List Name) (text : List ℕ) where
   pub listed_numbered : (u : ListedLine) (s : ℕ) (t : TermTree) → numbered names text u.signal ≡ Some s →
       numbered_term names text u.term ≡ Some t → small u.offset ≡ Some u.offset →
       numbered_listed names text u ≡ Some (listed_of s t u.offset)
-  listed_numbered u s t signal term offset =
-      ap (option_and_then (λ n. option_and_then (λ x. option_map (listed_of n x) (small u.offset)) (numbered_term names text u.term)))
-      signal
-      ∙ ap (option_and_then (λ x. option_map (listed_of s x) (small u.offset))) term ∙ ap (option_map (listed_of s t)) offset
+  listed_numbered u s t signal term offset = rw (signal, term, offset) refl
 
   pub equated_numbered : (e : PlacedLine) (p : ProbeTree) → numbered_test names text e.test ≡ Some p → small e.step ≡ Some e.step →
       numbered_equated names text e ≡ Some (equated_of p e.step)
-  equated_numbered e p test step =
-      ap (option_and_then (λ q. option_map (equated_of q) (small e.step))) test ∙ ap (option_map (equated_of p)) step
+  equated_numbered e p test step = rw (test, step) refl
 
   pub window_numbered : (w : WindowLine) (l : Option ProbeTree) (r : ProbeTree) (us : List ListedTree) (es : List EquatedTree) →
       numbered_left names text w.left ≡ Some l → numbered_test names text w.right.test ≡ Some r →
@@ -112,31 +84,16 @@ module _ (names : List Name) (text : List ℕ) where
       all_there (map (numbered_listed names text) w.updates) ≡ Some us →
       all_there (map (numbered_equated names text) w.equalities) ≡ Some es →
       numbered_window names text w ≡ Some (window_of l r (left_step w.left) w.right.step us es)
-  window_numbered w l r us es left right left_at length updates equalities =
-      let listed = all_there (map (numbered_listed names text) w.updates) in
-      let equal = all_there (map (numbered_equated names text) w.equalities) in
-      ap (option_and_then (λ a. option_and_then (λ b. option_and_then (λ i. option_and_then (λ n. option_and_then (λ xs.
-      option_map (window_of a b i n xs) equal) listed) (small w.right.step)) (small (left_step w.left)))
-      (numbered_test names text w.right.test))) left
-      ∙ ap (option_and_then (λ b. option_and_then (λ i. option_and_then (λ n. option_and_then (λ xs.
-      option_map (window_of l b i n xs) equal) listed) (small w.right.step)) (small (left_step w.left)))) right
-      ∙ ap (option_and_then (λ i. option_and_then (λ n. option_and_then (λ xs. option_map (window_of l r i n xs) equal) listed)
-      (small w.right.step))) left_at
-      ∙ ap (option_and_then (λ n. option_and_then (λ xs. option_map (window_of l r (left_step w.left) n xs) equal) listed)) length
-      ∙ ap (option_and_then (λ xs. option_map (window_of l r (left_step w.left) w.right.step xs) equal)) updates
-      ∙ ap (option_map (window_of l r (left_step w.left) w.right.step us)) equalities
+  window_numbered w l r us es left right left_at length updates equalities = rw (left, right, left_at, length, updates, equalities) refl
 
   pub branch_numbered : (p : SurfaceTermTree) (t : ProbeTree) (a b : ℕ) → numbered_test names text p ≡ Some t → small a ≡ Some a →
       small b ≡ Some b → numbered_node names text (branch_line p a b) ≡ Some (branch t a b)
-  branch_numbered p t a b test then_node else_node =
-      ap (option_and_then (λ x. option_and_then (λ i. option_map (branch x i) (small b)) (small a))) test
-      ∙ ap (option_and_then (λ i. option_map (branch t i) (small b))) then_node ∙ ap (option_map (branch t a)) else_node
+  branch_numbered p t a b test then_node else_node = rw (test, then_node, else_node) refl
 
   pub assignment_numbered : (us : List UpdateLine) (ts : List TermTree) (go : ℕ) →
       all_there (map (λ u. numbered_term names text u.term) us) ≡ Some ts → small go ≡ Some go →
       numbered_node names text (assignment_line us go) ≡ Some (assign ts go)
-  assignment_numbered us ts go terms state =
-      ap (option_and_then (λ xs. option_map (assign xs) (small go))) terms ∙ ap (option_map (assign ts)) state
+  assignment_numbered us ts go terms state = rw (terms, state) refl
 
   -- what a window's line is made of
   pub record Parts (line : WindowLine) (w : WindowTree) : Type 0 where
@@ -148,31 +105,21 @@ module _ (names : List Name) (text : List ℕ) where
     pub equalities : all_there (map (numbered_equated names text) line.equalities) ≡ Some w.equalities
 
   pub parts_of : (line : WindowLine) (w : WindowTree) → numbered_window names text line ≡ Some w → Parts line w
-  parts_of line w is =
-      option_and_then_some _ (numbered_left names text line.left) w is (λ left left_is a.
-      option_and_then_some _ (numbered_test names text line.right.test) w a (λ right right_is b.
-      option_and_then_some _ (small (left_step line.left)) w b (λ left_at left_at_is c.
-      option_and_then_some _ (small line.right.step) w c (λ length length_is d.
-      option_and_then_some _ (all_there (map (numbered_listed names text) line.updates)) w d (λ us us_are e.
-      made left right left_at length us left_is right_is left_at_is length_is us_are
-      (some_mapped (window_of left right left_at length us)
-      (all_there (map (numbered_equated names text) line.equalities)) w e))))))
-    where
-      made : (left : Option ProbeTree) (right : ProbeTree) (left_at length : ℕ) (us : List ListedTree) →
-          numbered_left names text line.left ≡ Some left → numbered_test names text line.right.test ≡ Some right →
-          small (left_step line.left) ≡ Some left_at → small line.right.step ≡ Some length →
-          all_there (map (numbered_listed names text) line.updates) ≡ Some us →
-          (es : List EquatedTree) × (all_there (map (numbered_equated names text) line.equalities) ≡ Some es)
-          × (window_of left right left_at length us es ≡ w) → Parts line w
-      made left right left_at length us left_is right_is left_at_is length_is us_are rest =
-          subst (Parts line) rest.2 (record {
-            left = left_is;
-            right = right_is;
-            left_at = left_at_is;
-            length = length_is;
-            updates = us_are;
-            equalities = rest.1;
-          })
+  parts_of line w is = held (Parts line) (numbered_window names text line) w
+      (then_holds (Parts line) _ (numbered_left names text line.left) (λ left left_is.
+      then_holds (Parts line) _ (numbered_test names text line.right.test) (λ right right_is.
+      then_holds (Parts line) _ (small (left_step line.left)) (λ left_at left_at_is.
+      then_holds (Parts line) _ (small line.right.step) (λ length length_is.
+      then_holds (Parts line) _ (all_there (map (numbered_listed names text) line.updates)) (λ us us_are.
+      map_holds (Parts line) _ (all_there (map (numbered_equated names text) line.equalities)) (λ es es_are. record {
+        left = left_is;
+        right = right_is;
+        left_at = left_at_is;
+        length = length_is;
+        updates = us_are;
+        equalities = es_are;
+      })))))))
+      is
 
   -- a name has the text of its number
   pub number_text : (bytes : List ℕ) (id : ℕ) → number_of names bytes ≡ Some id → bytes ≡ name_text names id
@@ -182,7 +129,6 @@ module _ (names : List Name) (text : List ℕ) where
 
   pub numbered_texts : (ats : List Place) (ids : List ℕ) → all_there (map (numbered names text) ats) ≡ Some ids →
       map (name_bytes text) ats ≡ map (name_text names) ids
-  numbered_texts [] ids is = ap (map (name_text names)) (same_Some [] ids is)
-  numbered_texts (at ∷ ats) ids is =
-      let parts = there_parts (numbered names text) at ats ids is in
-      (λ i. number_text (name_bytes text at) parts.0 parts.2 i ∷ numbered_texts ats parts.1 parts.3 i) ∙ ap (map (name_text names)) parts.4
+  numbered_texts ats ids is =
+      map_alike (name_bytes text) (name_text names) (λ at id made. number_text (name_bytes text at) id made)
+      (paired_there (λ at id. numbered names text at ≡ Some id) (numbered names text) (λ at id made. made) ats ids is)

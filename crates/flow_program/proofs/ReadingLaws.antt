@@ -8,8 +8,8 @@ use Rattle.std.proofs.lemmas.Option.{same_Some}
 use Rattle.tsl_terms.specs.Name.{Name, AreDistinct}
 use Rattle.tsl_terms.proofs.FirstUses.{first_uses_distinct}
 use Rattle.flow_program.specs.declared.reading.ProgramError.{ProgramError}
-use Rattle.flow_program.specs.declared.reading.ProgramError.TheVariants.{Form, Order, Target, Updates, Window, Unknown, Kind, Arity}
-use Rattle.flow_program.specs.declared.reading.ProgramError.TheVariants.{Windows, Nodes, States, NoMemory}
+use Rattle.flow_program.specs.declared.reading.ProgramError.TheVariants.{Form}
+use Rattle.flow_program.specs.declared.reading.ProgramError.TheVariants.{NoMemory}
 use Rattle.program_tree.specs.ProgramTree.{ProgramTree}
 use Rattle.flow_program.specs.ProgramText.{ProgramText}
 use Rattle.program_listing.specs.Listing.{IsListing, FormFault}
@@ -81,16 +81,7 @@ data Cause (text : List ℕ) (given : List Name) (e : ProgramError) : Type 0 whe
 cause_is : (text : List ℕ) (given : List Name) (e : ProgramError) → IsOfProgramText e → HasProgramCause text given e → Cause text given e
 cause_is text given (Form n) is h = of_form n refl h
 cause_is text given NoMemory is h = absurd is
-cause_is text given (Order n) is h = of_rule h
-cause_is text given (Target n) is h = of_rule h
-cause_is text given (Updates n) is h = of_rule h
-cause_is text given (Window n) is h = of_rule h
-cause_is text given (Unknown n at) is h = of_rule h
-cause_is text given (Kind n at) is h = of_rule h
-cause_is text given (Arity n at) is h = of_rule h
-cause_is text given Windows is h = of_rule h
-cause_is text given Nodes is h = of_rule h
-cause_is text given States is h = of_rule h
+cause_is text given fault is h = of_rule h
 
 pub refused_spells_none : (text : List ℕ) (given names : List Name) (e : ProgramError) (p : ProgramTree) → AreDistinct names →
     GoOnFrom given names → IsOfProgramText e → HasProgramCause text given e → ProgramText text names p → ⊥

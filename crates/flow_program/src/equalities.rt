@@ -128,6 +128,7 @@ fn are_within(text: &[u8], length: u64, equalities: &[SpelledPlaced]) -> bool
 }
 
 /// Whether the steps of equalities do not fall.
+#[tactic(auto, using(crate::proofs::EqualityKeys::rises))]
 fn steps_do_not_fall(equalities: &[SpelledPlaced]) -> bool
     ensures { result ≡ is_pairwise does_not_fall (map placed_line equalities.now) }
 {
@@ -174,6 +175,7 @@ fn none_stands_twice(
 
 /// Whether tests are equalities at steps up to the length, which do not fall, and none stands twice
 /// at one step. An `Err` says that memory ran out.
+#[tactic(auto, using(crate::proofs::EqualityKeys::in_order))]
 pub(crate) fn are_equalities(
     alloc: Global,
     text: &[u8],

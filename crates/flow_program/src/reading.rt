@@ -1,13 +1,13 @@
 //! Program texts are read.
 
-ghost use Rattle.std.specs.Prelude.{◌≡◌, ◌+◌, ◌<◌, ◌^◌, ◌++◌, length, IfOk, IfErr, IsTrue};
+ghost use Rattle.std.specs.Prelude.{◌≡◌, ◌+◌, ◌*◌, ◌<◌, ◌^◌, ◌++◌, length, IfOk, IfErr, IsTrue};
 ghost use Rattle.std.specs.List.{list_all};
 ghost use Rattle.tsl_terms.specs.Name.{texts, AreDistinct};
 ghost use Rattle.tsl_terms.specs.WellFormed.{name_fits};
 ghost use Rattle.program_tree.specs.ProgramView.{program_tree};
 ghost use Rattle.program_listing.specs.internal.NamesStand.{ListingStands};
 ghost use Rattle.program_listing.specs.Listing.{listing_tree, IsListing};
-ghost use Rattle.flow_program.specs.Uses.{first_state};
+ghost use Rattle.flow_program.specs.Uses.{first_state, uses_of};
 ghost use Rattle.flow_program.specs.Rules.{cell_texts, readable_of};
 ghost use Rattle.flow_program.specs.Reading.{IsReading, HasProgramCause};
 
@@ -112,6 +112,7 @@ fn joined(alloc: Global, left: &[Name], right: &[Name]) -> Result<Vec<Name>, NoM
 }
 
 /// The names of the signals that lines declare. An `Err` says that memory ran out.
+#[tactic(auto, using(crate::proofs::RuleLemmas::texts_are))]
 fn declared_signals(
     alloc: Global,
     text: &[u8],
@@ -154,7 +155,10 @@ fn program_of(
     names: Names,
     listing: &ProgramSyntax,
 ) -> Result<(Program, Names), ProgramError>
-    requires room { length text.now + length names < 2 ^ 32 }
+    requires room { length names + 2 * length (uses_of text.now (listing_tree listing.now)) < 2 ^ 32 }
+    requires lines { first_state (listing_tree listing.now)
+        + length listing.now.states.items < 2 ^ 32 }
+    requires stands { ListingStands text.now (listing_tree listing.now) }
     requires names { IsTrue (list_all name_fits names) }
     requires listing { IsListing text.now (listing_tree listing.now) }
     ensures ok { IfOk result (λ read. IsReading text.now names (program_tree read.0) read.1) }
@@ -166,9 +170,10 @@ fn program_of(
     if let Some(fault) = line_fault(alloc, text, listing, &declared.cells, &declared.controlled)? {
         return Err(fault);
     }
-    let uses = all_uses(alloc, text, listing)?;
-    let names = names_after(names, &uses)?;
-    if let Some(fault) = use_fault(&declared.readable, &names, &uses) {
+    let listed = all_uses(alloc, text, listing)?;
+    let uses = listed.as_slice();
+    let names = names_after(names, uses)?;
+    if let Some(fault) = use_fault(&declared.readable, &names, uses) {
         return Err(fault);
     }
     if let Some(fault) = limit_fault(listing) {

@@ -89,9 +89,9 @@ fn order_line(line: u32, nodes: &[SpelledNode]) -> Option<u32>
     None
 }
 
-/// Whether a node is an assignment that goes to none of so many states.
+/// Whether a node is an assignment that goes to none of so many states. Its own number is not asked.
 fn goes_nowhere(states: usize, node: &SpelledNode) -> bool
-    ensures { (number : ℕ) → result ≡ goes_nowhere states number (node_line node.now) }
+    ensures { result ≡ goes_nowhere states 0 (node_line node.now) }
 {
     match node {
         SpelledNode::Branch { .. } => false,
@@ -144,12 +144,13 @@ fn are_updates_of(text: &[u8], updates: &[SpelledUpdate], controlled: &[Name]) -
     true
 }
 
-/// Whether a node is an assignment that does not update these names in their order.
+/// Whether a node is an assignment that does not update these names in their order. Its own number
+/// is not asked.
 fn breaks_updates(text: &[u8], controlled: &[Name], node: &SpelledNode) -> bool
     requires node { IsTrue (node_line_stands text.now (node_line node.now)) }
     requires controlled { IsTrue (list_all (name_stands text.now) controlled.now) }
-    ensures { (number : ℕ) → result ≡ breaks_updates text.now
-        (map (name_bytes text.now) controlled.now) number (node_line node.now) }
+    ensures { result ≡ breaks_updates text.now
+        (map (name_bytes text.now) controlled.now) 0 (node_line node.now) }
 {
     match node {
         SpelledNode::Branch { .. } => false,
@@ -257,8 +258,8 @@ fn breaks_window(
     window: &SpelledWindow,
 ) -> Result<bool, NoMemory>
     requires { IsTrue (window_line_stands text.now (window_line window.now)) }
-    ensures { IfOk result (λ breaks. (number : ℕ)
-        → breaks ≡ breaks_window text.now (texts cells.now) number (window_line window.now)) }
+    ensures { IfOk result
+        (λ breaks. breaks ≡ breaks_window text.now (texts cells.now) 0 (window_line window.now)) }
 {
     let length = window.right.step;
     let is_short = length <= u64::from(LONGEST_WINDOW) && window.left_step() <= length;

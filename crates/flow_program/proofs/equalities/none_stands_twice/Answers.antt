@@ -1,4 +1,4 @@
-use Rattle.sequence.proofs.Passes.{map_passes_within}
+use Rattle.flow_program.proofs.MadeLists.{image_passes}
 use Rattle.program_listing.specs.Listing.{placed_line}
 use Rattle.program_listing.specs.internal.NamesStand.{placed_line_stands}
 use Rattle.flow_program.proofs.EqualityKeys.{twice, once, seen_more}
@@ -6,9 +6,7 @@ use Rattle.flow_program.proofs.equalities.none_stands_twice.Goals as goal
 
 pub key_of-requires : goal.key_of-requires
 key_of-requires c =
-    rw c.equality-item.is
-    (map_passes_within placed_line (placed_line_stands c.args.text.now) c.args.equalities.now c.loop-equality.equality-index
-    c.equality-item.result c.requires c.loop-equality-test.true)
+    image_passes placed_line (placed_line_stands c.args.text.now) _ c.requires c.loop-equality-test.true c.equality-item.is
 
 pub returns-then-not-branch : goal.returns-then-not-branch
 returns-then-not-branch c =

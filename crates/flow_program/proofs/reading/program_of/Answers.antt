@@ -1,87 +1,42 @@
 use Rattle.std.proofs.Common.{◌≡◌, length, map, ap, sym, ◌∙◌, arith}
 use Rattle.sequence.proofs.Results.{handed_on}
-use Rattle.tsl_terms.specs.Name.{texts}
 use Rattle.flow_program.specs.declared.reading.ProgramError.TheVariants.{NoMemory}
 use Rattle.program_listing.specs.Listing.{listing_tree}
-use Rattle.flow_program.specs.Uses.{uses_of, names_after}
+use Rattle.flow_program.specs.Uses.{uses_of}
 use Rattle.flow_program.specs.Reading.{HasProgramCause}
 use Rattle.flow_program.specs.internal.UseView.{use_view}
-use Rattle.program_listing.proofs.ListingFacts.{listing_stands}
 use Rattle.flow_program.proofs.Lengths.{names_within}
-use Rattle.flow_program.proofs.UsesStand.{uses_and_lines}
 use Rattle.flow_program.proofs.Composed.{at_a_line, at_a_use, at_a_limit, spells, names_may_be_written}
 use Rattle.flow_program.proofs.reading.program_of.Goals as goal
-
-pub declared_signals-requires-clause-lines : goal.declared_signals-requires-clause-lines
-declared_signals-requires-clause-lines c =
-    omega (arith, uses_and_lines c.args.text.now (listing_tree c.args.listing.now) c.requires.listing, c.requires.room)
-
-pub declared_signals-requires-clause-stands : goal.declared_signals-requires-clause-stands
-declared_signals-requires-clause-stands c = listing_stands c.args.text.now (listing_tree c.args.listing.now) c.requires.listing
-
-pub line_fault-requires-clause-stands : goal.line_fault-requires-clause-stands
-line_fault-requires-clause-stands c = listing_stands c.args.text.now (listing_tree c.args.listing.now) c.requires.listing
-
-pub all_uses-requires-clause-stands : goal.all_uses-requires-clause-stands
-all_uses-requires-clause-stands c = listing_stands c.args.text.now (listing_tree c.args.listing.now) c.requires.listing
-
-pub numbered_program-requires-clause-stands : goal.numbered_program-requires-clause-stands
-numbered_program-requires-clause-stands c = listing_stands c.args.text.now (listing_tree c.args.listing.now) c.requires.listing
-
-pub line_fault-requires-clause-lines : goal.line_fault-requires-clause-lines
-line_fault-requires-clause-lines c =
-    omega (arith, uses_and_lines c.args.text.now (listing_tree c.args.listing.now) c.requires.listing, c.requires.room)
 
 pub returns-in-Some-clause-cause : goal.returns-in-Some-clause-cause
 returns-in-Some-clause-cause c =
     at_a_line c.args.text.now c.args.names (listing_tree c.args.listing.now) c.requires.listing c.in-Some.fault
     (sym (rw c.in-Some.is at c.in_ok-fault.ensures))
 
-pub all_uses-requires-clause-lines : goal.all_uses-requires-clause-lines
-all_uses-requires-clause-lines c =
-    omega (arith, uses_and_lines c.args.text.now (listing_tree c.args.listing.now) c.requires.listing, c.requires.room)
-
-pub all_uses-requires-clause-few : goal.all_uses-requires-clause-few
-all_uses-requires-clause-few c =
-    omega (arith, uses_and_lines c.args.text.now (listing_tree c.args.listing.now) c.requires.listing, c.requires.room)
-
 pub names_after-requires : goal.names_after-requires
 names_after-requires c =
-    let uses_are : map use_view c.deref-2.result.now ≡ uses_of c.args.text.now (listing_tree c.args.listing.now) =
-    ap (map use_view) c.deref-2.ensures.value ∙ c.in_ok-uses.ensures in
-    omega (
-      arith,
-      names_within c.args.names (map use_view c.deref-2.result.now),
-      ap length uses_are,
-      uses_and_lines c.args.text.now (listing_tree c.args.listing.now) c.requires.listing,
-      c.requires.room,
-    )
+    let uses_are : map use_view c.as_slice-uses.result.now ≡ uses_of c.args.text.now (listing_tree c.args.listing.now) =
+    ap (map use_view) c.as_slice-uses.ensures.value ∙ c.in_ok-listed.ensures in
+    omega (arith, names_within c.args.names (map use_view c.as_slice-uses.result.now), ap length uses_are, c.requires.room)
 
 pub returns-in-Some-use_fault-clause-cause : goal.returns-in-Some-use_fault-clause-cause
 returns-in-Some-use_fault-clause-cause c =
-    at_a_use c.args.text.now c.args.names (listing_tree c.args.listing.now) (texts c.in_ok-declared.declared.readable)
-    c.in_ok-declared.ensures.readable (map use_view c.deref-3.result.now) (ap (map use_view) c.deref-3.ensures.value ∙ c.in_ok-uses.ensures)
-    c.in_ok-names.names
-    (c.in_ok-names.ensures ∙ ap (λ us. names_after c.args.names (map use_view us)) (c.deref-2.ensures.value ∙ sym c.deref-3.ensures.value))
-    c.requires.listing c.in-Some-use_fault.fault (sym (rw c.in_default.is at c.in_ok-fault.ensures)) (sym c.in-Some-use_fault.ensures)
+    at_a_use c.args.text.now c.args.names _ _ c.in_ok-declared.ensures.readable _ (ap (map use_view) c.as_slice-uses.ensures.value
+    ∙ c.in_ok-listed.ensures) c.in_ok-names.names c.in_ok-names.ensures c.requires.listing c.in-Some-use_fault.fault
+    (sym (rw c.in_default.is at c.in_ok-fault.ensures)) (sym c.in-Some-use_fault.ensures)
 
 pub returns-in-Some-limit_fault-clause-cause : goal.returns-in-Some-limit_fault-clause-cause
 returns-in-Some-limit_fault-clause-cause c =
-    at_a_limit c.args.text.now c.args.names (listing_tree c.args.listing.now) (texts c.in_ok-declared.declared.readable)
-    c.in_ok-declared.ensures.readable (map use_view c.deref-3.result.now) (ap (map use_view) c.deref-3.ensures.value ∙ c.in_ok-uses.ensures)
-    c.in_ok-names.names
-    (c.in_ok-names.ensures ∙ ap (λ us. names_after c.args.names (map use_view us)) (c.deref-2.ensures.value ∙ sym c.deref-3.ensures.value))
-    c.requires.listing c.in-Some-limit_fault.fault (sym (rw c.in_default.is at c.in_ok-fault.ensures)) (sym c.in_default-use_fault.ensures)
-    (sym c.in-Some-limit_fault.ensures)
+    at_a_limit c.args.text.now c.args.names _ _ c.in_ok-declared.ensures.readable _ (ap (map use_view) c.as_slice-uses.ensures.value
+    ∙ c.in_ok-listed.ensures) c.in_ok-names.names c.in_ok-names.ensures c.requires.listing c.in-Some-limit_fault.fault
+    (sym (rw c.in_default.is at c.in_ok-fault.ensures)) (sym c.in_default-use_fault.ensures) (sym c.in-Some-limit_fault.ensures)
 
 pub numbered_program-requires-clause-program : goal.numbered_program-requires-clause-program
 numbered_program-requires-clause-program c =
-    spells c.args.text.now c.args.names (listing_tree c.args.listing.now) (texts c.in_ok-declared.declared.readable)
-    c.in_ok-declared.ensures.readable (map use_view c.deref-3.result.now) (ap (map use_view) c.deref-3.ensures.value ∙ c.in_ok-uses.ensures)
-    c.in_ok-names.names
-    (c.in_ok-names.ensures ∙ ap (λ us. names_after c.args.names (map use_view us)) (c.deref-2.ensures.value ∙ sym c.deref-3.ensures.value))
-    c.are_distinct.ensures c.requires.names c.requires.listing (sym (rw c.in_default.is at c.in_ok-fault.ensures))
-    (sym c.in_default-use_fault.ensures) (sym c.in_default-limit_fault.ensures)
+    spells c.args.text.now c.args.names _ _ c.in_ok-declared.ensures.readable _ (ap (map use_view) c.as_slice-uses.ensures.value
+    ∙ c.in_ok-listed.ensures) c.in_ok-names.names c.in_ok-names.ensures c.are_distinct.ensures c.requires.names c.requires.listing
+    (sym (rw c.in_default.is at c.in_ok-fault.ensures)) (sym c.in_default-use_fault.ensures) (sym c.in_default-limit_fault.ensures)
 
 pub returns-in_err-program-clause-cause : goal.returns-in_err-program-clause-cause
 returns-in_err-program-clause-cause c =
@@ -89,8 +44,5 @@ returns-in_err-program-clause-cause c =
 
 pub returns-clause-names_fit : goal.returns-clause-names_fit
 returns-clause-names_fit c =
-    names_may_be_written c.args.text.now c.args.names (listing_tree c.args.listing.now) (texts c.in_ok-declared.declared.readable)
-    c.in_ok-declared.ensures.readable (map use_view c.deref-3.result.now) (ap (map use_view) c.deref-3.ensures.value ∙ c.in_ok-uses.ensures)
-    c.in_ok-names.names
-    (c.in_ok-names.ensures ∙ ap (λ us. names_after c.args.names (map use_view us)) (c.deref-2.ensures.value ∙ sym c.deref-3.ensures.value))
-    c.requires.names c.requires.listing
+    names_may_be_written c.args.text.now c.args.names _ _ c.in_ok-declared.ensures.readable _ (ap (map use_view) c.as_slice-uses.ensures.value
+    ∙ c.in_ok-listed.ensures) c.in_ok-names.names c.in_ok-names.ensures c.requires.names c.requires.listing
