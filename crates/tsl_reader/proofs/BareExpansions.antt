@@ -19,7 +19,7 @@ use Rattle.tsl_reader.specs.Naming.{term_uses, terms_uses, uses, members_uses, s
 use Rattle.tsl_reader.specs.Naming.{same_part, formulas_of_part}
 use Rattle.tsl_reader.specs.ReadText.{StandFor}
 use Rattle.tsl_reader.specs.Expanding.{replacing_in, bare_expansion, expanded_bare, nodes_of_expansion, nodes_of_formulas, nodes_of_sections}
-use Rattle.tsl_reader.proofs.NumberedFormulasAreTold.{uses_told, numbers_told}
+use Rattle.tsl_reader.proofs.UngroupedFormulas.{uses_told, numbers_told}
 
 -- ---- not more uses than nodes
 

@@ -28,7 +28,7 @@ use Rattle.tsl_reader.specs.Expanding.{replacing_in, expanded_bare, nodes_of_sec
 use Rattle.tsl_reader.proofs.BareExpansions.{bare_stand, sections_few}
 use Rattle.tsl_reader.proofs.ExpandedTexts.{list_good}
 use Rattle.tsl_reader.proofs.LevelsOfSizes.{levels_of, levels_are, first_by_levels}
-use Rattle.tsl_reader.proofs.ManyNodesAreTold.{many_nodes_are_told}
+use Rattle.tsl_reader.proofs.ManyNodesAreTold.{spec_of, many_nodes_are_told}
 use Rattle.tsl_reader.proofs.TextParts.{well_named, in_order}
 
 -- the sections with the expansions of their formulas derive from what their terminals expand to
@@ -68,15 +68,8 @@ module _ (text : List ℕ) (tokens : List Token) (own : List Terminal) (ds : Lis
       let ss = expanded_sections (replacing_in (definitions_in ds)) (sections_among ds) in
       let good = list_good text tokens own ds fits.terminals_are ss
       (record { derives = derives; well = well; expands = fits.expands; sections_are = fits.sections_are }) in
-      let spec : SpecTree = record {
-        names = names_of ss;
-        assume_first = (good AssumeFirst).trees;
-        assume_always = (good AssumeAlways).trees;
-        guarantee_first = (good GuaranteeFirst).trees;
-        guarantee_always = (good GuaranteeAlways).trees;
-      } in
       record {
-        spec = spec;
+        spec = spec_of (names_of ss) ss good;
         derived = record {
           tokens = tokens;
           own = own;
@@ -93,13 +86,7 @@ module _ (text : List ℕ) (tokens : List Token) (own : List Terminal) (ds : Lis
           guarantee_first = (good GuaranteeFirst).numbered_are;
           guarantee_always = (good GuaranteeAlways).numbered_are;
         };
-        many_nodes = many_nodes_are_told NODES_STOP most_formula_nodes (names_of ss) (definitions_in ds) (sections_among ds) spec
-            (record {
-              assume_first = (good AssumeFirst).numbered_are;
-              assume_always = (good AssumeAlways).numbered_are;
-              guarantee_first = (good GuaranteeFirst).numbered_are;
-              guarantee_always = (good GuaranteeAlways).numbered_are;
-            }) many;
+        many_nodes = many_nodes_are_told NODES_STOP most_formula_nodes (names_of ss) (definitions_in ds) (sections_among ds) good many;
       }
 
 -- the same of what is known of the text by its names and parts

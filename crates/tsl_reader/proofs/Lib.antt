@@ -1,5 +1,6 @@
 mod Examples
 pub mod Causes
+pub mod CausesInOrder
 pub mod OneCause
 pub mod SpelledFits
 pub mod UsePlaces
@@ -8,7 +9,6 @@ pub mod Shapes
 pub mod Usable
 pub mod Known
 pub mod Fits
-pub mod NameBounds
 pub mod NumberLemmas
 pub mod Results
 pub mod StageLemmas
@@ -28,7 +28,7 @@ pub mod PartsAreGood
 pub mod UsesStand
 pub mod ExpansionsUseTheTextsNames
 pub mod ExpansionsHaveNoClash
-pub mod NumberedFormulasAreTold
+pub mod UngroupedFormulas
 pub mod LevelsOfSizes
 pub mod ManyNodesAreTold
 pub mod FewNames

@@ -86,7 +86,7 @@ numbered_append names (f ∷ fs) gs =
     by (Some tree) (Some trees) None = refl
     by (Some tree) (Some trees) (Some more) = refl
 
-formulas_split : (part : Part) (s : SectionSyntax) (ss : List SectionSyntax) →
+pub formulas_split : (part : Part) (s : SectionSyntax) (ss : List SectionSyntax) →
     formulas_of_part part (s ∷ ss) ≡ formulas_if part s ++ formulas_of_part part ss
 formulas_split part s ss = by (same_part part s.part) where
   by : (is : Bool) → flat_map (λ (r : SectionSyntax). r.formulas)

@@ -30,7 +30,7 @@ use Rattle.spec_syntax.proofs.ExactDeclarations.{declarations_exact}
 use Rattle.spec_syntax.proofs.FirstFaults as first
 use Rattle.tsl_reader.proofs.Causes.{length_terminals, form_at_token, form_at_end, deep_at_token, deep_has_token}
 use Rattle.spec_syntax.proofs.ExactDeclarations.{declarations_derive}
-use Rattle.tsl_reader.proofs.NameBounds.{names_within}
+use Rattle.tsl_reader.proofs.FewNames.{names_within}
 
 is_there : (tokens : List Token) (i : ℕ) → i < length tokens → slice_get tokens i ≡ None → ⊥
 is_there tokens i within none =
