@@ -37,24 +37,9 @@ placed p os at h = by (nat_lt (position_or_len p os) (length os)) refl h where
   by false e g = cc
 
 -- the name at a place that is told has its token
-token_at : (is_such : Occurrence → Bool) (text : List ℕ) (tokens : List Token) (own : List Terminal) (ds : List Declaration) →
+pub token_at : (is_such : Occurrence → Bool) (text : List ℕ) (tokens : List Token) (own : List Terminal) (ds : List Declaration) →
     Derives text tokens own ds → (at : ℕ) → position is_such (names_in ds) ≡ Some at →
     (token : Token) × (slice_get (name_tokens text tokens) at ≡ Some token)
 token_at is_such text tokens own ds d at h =
     let o = slice_get_some (names_in ds) at (placed is_such (names_in ds) at h) in
     token_of_name (names_in ds) (name_tokens text tokens) text at o.0 (texts_of_names text tokens own ds d) o.1
-
--- the token that is told is that of the first such name
-pub first_named : (is_such : Occurrence → Bool) (text : List ℕ) (tokens : List Token) (ds : List Declaration) (place : Option ℕ)
-    (token : Token) → place ≡ position is_such (names_in ds) → Some token ≡ option_and_then (slice_get (name_tokens text tokens)) place →
-    IsFirstName is_such text tokens ds token.start token.end
-first_named is_such text tokens ds place token is found =
-    let at = found_place (name_tokens text tokens) place token found in
-    record { at = at.0; first = sym is ∙ at.1; token = token; there = at.2; starts = refl; ends = refl }
-
--- where none is told there is none
-pub no_name : (is_such : Occurrence → Bool) (text : List ℕ) (tokens : List Token) (own : List Terminal) (ds : List Declaration)
-    (place : Option ℕ) → Derives text tokens own ds → place ≡ position is_such (names_in ds) →
-    None ≡ option_and_then (slice_get (name_tokens text tokens)) place → position is_such (names_in ds) ≡ None
-no_name is_such text tokens own ds place d is none =
-    sym is ∙ no_place (name_tokens text tokens) place (λ at h. token_at is_such text tokens own ds d at (sym is ∙ h)) none

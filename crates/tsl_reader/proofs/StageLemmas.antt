@@ -28,20 +28,8 @@ use Rattle.tsl_reader.specs.ReadText.{AreDeclared, AreExpanded}
 use Rattle.spec_syntax.specs.SyntaxView.{terminals_view}
 use Rattle.spec_syntax.proofs.ExactDeclarations.{declarations_exact}
 use Rattle.spec_syntax.proofs.FirstFaults as first
-use Rattle.tsl_reader.proofs.Causes.{length_terminals, form_at_token, form_at_end, deep_at_token, deep_has_token}
 use Rattle.spec_syntax.proofs.ExactDeclarations.{declarations_derive}
 use Rattle.tsl_reader.proofs.FewNames.{names_within}
-
-is_there : (tokens : List Token) (i : ℕ) → i < length tokens → slice_get tokens i ≡ None → ⊥
-is_there tokens i within none =
-    let some = slice_get_some tokens i within in
-    let never : Some some.0 ≡ None = sym some.1 ∙ none in
-    cc
-
--- where no token is left the place is the end
-at_end : (tokens : List Token) (left : ℕ) → left ≤ length tokens → slice_get tokens (length tokens - left) ≡ None → left ≡ 0
-at_end tokens zero h e = refl
-at_end tokens (suc left) h e = absurd (is_there tokens (length tokens - suc left) (omega (arith, h)) e)
 
 -- the names among the tokens that are left
 
@@ -69,56 +57,6 @@ name_skipped text ts i left same d at within is e h =
     let names = name_tokens text (drop (i + 1) ts) in
     ap (slice_get names) e
     ∙ sym (ap (λ ns. slice_get ns left) (next_names text ts i d within ∙ ap (λ b. cond b (get_or ts i d ∷ names) names) is)) ∙ h
-
--- what was read
-
-pub derives : (text : List ℕ) (tokens : List Token) (xs : List LentTerminal) (ds : List Declaration) (rest : List Terminal) →
-    AreTokens text tokens →
-    terminals_view xs ≡ terminals text tokens → declarations deepest_level (terminals_view xs) ≡ Ok (ds, rest) →
-    AreDeclared text tokens ds
-derives text tokens xs ds rest are is h =
-    let read = declarations_derive deepest_level (terminals text tokens) ds rest (rw is at h) in
-    (read.0, record { tokens_are = are; derived = read.1 })
-
--- faults, with as many tokens left as terminals
-
-pub form_left : (text : List ℕ) (tokens : List Token) (xs : List LentTerminal) (left : ℕ) → terminals_view xs ≡ terminals text tokens →
-    declarations deepest_level (terminals_view xs) ≡ Err (form left) → left ≤ length tokens
-form_left text tokens xs left is h =
-    omega (arith, first.form_within (declarations_exact deepest_level) (terminals text tokens) left (rw is at h), length_terminals text tokens)
-
-pub deep_left : (text : List ℕ) (tokens : List Token) (xs : List LentTerminal) (left : ℕ) → terminals_view xs ≡ terminals text tokens →
-    declarations deepest_level (terminals_view xs) ≡ Err (deep left) → left ≤ length tokens
-deep_left text tokens xs left is h = (deep_has_token text tokens left (rw is at h)).1
-
-pub form_fault : (text : List ℕ) (tokens : List Token) (xs : List LentTerminal) (left at : ℕ) → AreTokens text tokens →
-    terminals_view xs ≡ terminals text tokens →
-    declarations deepest_level (terminals_view xs) ≡ Err (form left) →
-    MatchOption (slice_get tokens (length tokens - left)) (at ≡ length text) (λ token. at ≡ token.start) → HasFormFault text at
-form_fault text tokens xs left at are is h place = by (slice_get tokens (length tokens - left)) refl place where
-  read : declarations deepest_level (terminals text tokens) ≡ Err (form left)
-  read = rw is at h
-
-  by : (found : Option Token) → slice_get tokens (length tokens - left) ≡ found →
-      MatchOption found (at ≡ length text) (λ token. at ≡ token.start) → HasFormFault text at
-  by None e k = rw k (form_at_end text tokens are left read (at_end tokens left (form_left text tokens xs left is h) e))
-  by (Some token) e k = rw k (form_at_token text tokens are left read token e)
-
-pub deep_fault : (text : List ℕ) (tokens : List Token) (xs : List LentTerminal) (left at : ℕ) → AreTokens text tokens →
-    terminals_view xs ≡ terminals text tokens →
-    declarations deepest_level (terminals_view xs) ≡ Err (deep left) →
-    MatchOption (slice_get tokens (length tokens - left)) (at ≡ length text) (λ token. at ≡ token.start) → HasDeepFault text at
-deep_fault text tokens xs left at are is h place = by (slice_get tokens (length tokens - left)) refl place where
-  read : declarations deepest_level (terminals text tokens) ≡ Err (deep left)
-  read = rw is at h
-
-  within : length tokens - left < length tokens
-  within = omega (arith, (deep_has_token text tokens left read).0, (deep_has_token text tokens left read).1)
-
-  by : (found : Option Token) → slice_get tokens (length tokens - left) ≡ found →
-      MatchOption found (at ≡ length text) (λ token. at ≡ token.start) → HasDeepFault text at
-  by None e k = absurd (is_there tokens (length tokens - left) within e)
-  by (Some token) e k = rw k (deep_at_token text tokens are left read token e)
 
 -- a list that has its numbers fits the names
 

@@ -13,7 +13,6 @@ ghost use Rattle.tsl_reader.specs.ReadText.{AreTextParts, AreExpanded};
 ghost use Rattle.tsl_reader.specs.Expanding.{bare_expansion, expanded_bare};
 ghost use Rattle.tsl_reader.specs.Expanding.{nodes_of_formulas, nodes_of_sections};
 
-use crate::splitting::Parts;
 use crate::text_names::{TextNames, check_names, check_uses, order_of};
 use crate::{MOST_NODES, SpecError};
 use named_formulas::{NODES_STOP, ReadDefinition, Size, expansion, expansion_size, sizes};
@@ -109,27 +108,28 @@ fn sections_with_uses<'a>(
     alloc: Global,
     text: &[u8],
     tokens: &[Token],
-    names: &TextNames,
-    parts: &Parts<'a>,
+    names: TextNames,
+    sections: &[ReadSection<'a>],
+    definitions: &[ReadDefinition<'a>],
 ) -> Result<Vec<ReadSection<'a>>, SpecError>
     requires text { length text.now < 2 ^ 32 - 1 }
     requires each { All (IsTokenOf text.now) tokens.now }
-    requires parts { AreTextParts text.now tokens.now names.now.heads
-        (map occurrence_of names.now.occurrences.items)
-        (map section_syntax parts.now.sections.items)
-        (map definition_of parts.now.definitions.items) }
+    requires parts { AreTextParts text.now tokens.now names.heads.now
+        (map occurrence_of names.occurrences.now) (map section_syntax sections.now)
+        (map definition_of definitions.now) }
     ensures expanded { IfOk result
         (λ sections. AreExpanded text.now (map section_syntax sections.items)) }
     ensures cause { IfErr result (HasCause text.now) }
 {
-    let order = order_of(alloc, text, tokens, names, &parts.definitions)?;
+    let order = order_of(alloc, text, tokens, names, definitions)?;
     check_names(alloc, text, tokens, names)?;
-    let sizes = sizes(alloc, &names.heads, &parts.definitions, &order)?;
-    check_uses(alloc, text, tokens, names, &sizes)?;
-    if nodes_of_sections(&names.heads, &sizes, &parts.sections) > MOST_NODES {
+    let sizes = sizes(alloc, names.heads, definitions, &order)?;
+    let sizes = sizes.as_slice();
+    check_uses(alloc, text, tokens, names, sizes)?;
+    if nodes_of_sections(names.heads, sizes, sections) > MOST_NODES {
         return Err(SpecError::Nodes);
     }
-    Ok(expanded_sections(alloc, &names.heads, &parts.definitions, &parts.sections)?)
+    Ok(expanded_sections(alloc, names.heads, definitions, sections)?)
 }
 
 /// The sections that a text expands to. Those of a text without definitions stay as they are.
@@ -137,22 +137,22 @@ pub(crate) fn sections_of_parts<'a>(
     alloc: Global,
     text: &[u8],
     tokens: &[Token],
-    names: &TextNames,
-    parts: Parts<'a>,
+    names: TextNames,
+    sections: Vec<ReadSection<'a>>,
+    definitions: &[ReadDefinition<'a>],
 ) -> Result<Vec<ReadSection<'a>>, SpecError>
     requires text { length text.now < 2 ^ 32 - 1 }
     requires each { All (IsTokenOf text.now) tokens.now }
-    requires parts { AreTextParts text.now tokens.now names.now.heads
-        (map occurrence_of names.now.occurrences.items)
-        (map section_syntax parts.sections.items)
-        (map definition_of parts.definitions.items) }
+    requires parts { AreTextParts text.now tokens.now names.heads.now
+        (map occurrence_of names.occurrences.now) (map section_syntax sections.items)
+        (map definition_of definitions.now) }
     ensures expanded { IfOk result
         (λ sections. AreExpanded text.now (map section_syntax sections.items)) }
     ensures cause { IfErr result (HasCause text.now) }
 {
-    if !parts.definitions.is_empty() {
-        return sections_with_uses(alloc, text, tokens, names, &parts);
+    if !definitions.is_empty() {
+        return sections_with_uses(alloc, text, tokens, names, &sections, definitions);
     }
     check_names(alloc, text, tokens, names)?;
-    Ok(parts.sections)
+    Ok(sections)
 }

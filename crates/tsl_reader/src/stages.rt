@@ -22,9 +22,10 @@ use crate::expanding::sections_of_parts;
 use crate::naming::numbered_names;
 use crate::numbering::formulas_of_part;
 use crate::splitting::parts_of;
-use crate::text_names::{check_heads, text_names};
+use crate::text_names::{TextNames, check_heads};
 use crate::uses::all_uses;
 use crate::{MOST_NODES, SpecError};
+use declared_names::{heads, occurrences};
 use sequence::NoMemory;
 use spec_syntax::{Part, ReadDeclaration, ReadFault, ReadSection, declarations, terminals};
 use std::alloc::Global;
@@ -98,10 +99,23 @@ fn sections_of<'a>(
     ensures cause { IfErr result (HasCause text.now) }
 {
     let declarations = declarations_of(alloc, text, tokens)?;
-    let names = text_names(alloc, &declarations)?;
-    check_heads(text, tokens, &names)?;
+    let read = declarations.as_slice();
+    let heads = heads(alloc, read)?;
+    let occurrences = occurrences(alloc, &heads, read)?;
+    let names = TextNames {
+        heads: &heads,
+        occurrences: &occurrences,
+    };
+    check_heads(text, tokens, names)?;
     let parts = parts_of(alloc, declarations)?;
-    sections_of_parts(alloc, text, tokens, &names, parts)
+    sections_of_parts(
+        alloc,
+        text,
+        tokens,
+        names,
+        parts.sections,
+        &parts.definitions,
+    )
 }
 
 /// The specification that a text derives, however many nodes its whole formula has.
