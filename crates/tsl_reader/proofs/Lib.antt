@@ -33,4 +33,3 @@ pub mod UngroupedFormulas
 pub mod LevelsOfSizes
 pub mod ManyNodesAreTold
 pub mod FewNames
-pub mod ExpansionLoops

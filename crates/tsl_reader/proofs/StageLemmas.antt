@@ -3,6 +3,7 @@ use Rattle.std.proofs.Common.{◌≡◌, ℕ, zero, suc, ◌+◌, ◌-◌, ◌<�
 use Rattle.std.proofs.Common.{refl, ap, sym, ◌∙◌, arith}
 use Rattle.std.proofs.lemmas.Bool.{leb-true, leb-false}
 use Rattle.std.proofs.lemmas.List.{drop_more}
+use Rattle.std.proofs.lemmas.Option.{same_Some}
 use Rattle.std.specs.List.{list_all}
 use Rattle.std.specs.Prelude.{Option, Some, None, Ok, Err, slice_get, flat_map, nat_le, MatchOption}
 use Rattle.sequence.proofs.Places.{slice_get_some}
@@ -33,30 +34,18 @@ use Rattle.tsl_reader.proofs.FewNames.{names_within}
 
 -- the names among the tokens that are left
 
-next_names : (text : List ℕ) (ts : List Token) (i : ℕ) (d : Token) → i < length ts →
-    name_tokens text (drop i ts)
-    ≡ cond (is_free (terminal_at text (get_or ts i d))) (get_or ts i d ∷ name_tokens text (drop (i + 1) ts))
-    (name_tokens text (drop (i + 1) ts))
-next_names text ts i d within = ap (name_tokens text) (drop_more ts i d within)
-
 pub name_passed : (text : List ℕ) (ts : List Token) (i left less : ℕ) (d : Token) (at : Option Token) → i < length ts →
     is_free (terminal_at text (get_or ts i d)) ≡ true →
     (left ≡ 0 → ⊥) → less ≡ left - 1 → slice_get (name_tokens text (drop i ts)) left ≡ at →
     slice_get (name_tokens text (drop (i + 1) ts)) less ≡ at
 name_passed text ts i left less d at within is some one h =
-    let names = name_tokens text (drop (i + 1) ts) in
     let more : left ≡ suc less = omega (arith, some, one) in
-    sym (ap (λ l. slice_get (name_tokens text (drop i ts)) l) more
-    ∙ ap (λ ns. slice_get ns (suc less)) (next_names text ts i d within ∙ ap (λ b. cond b (get_or ts i d ∷ names) names) is))
-    ∙ h
+    rw (drop_more ts i d within, is, more) at h
 
 pub name_skipped : (text : List ℕ) (ts : List Token) (i left same : ℕ) (d : Token) (at : Option Token) → i < length ts →
     is_free (terminal_at text (get_or ts i d)) ≡ false → same ≡ left →
     slice_get (name_tokens text (drop i ts)) left ≡ at → slice_get (name_tokens text (drop (i + 1) ts)) same ≡ at
-name_skipped text ts i left same d at within is e h =
-    let names = name_tokens text (drop (i + 1) ts) in
-    ap (slice_get names) e
-    ∙ sym (ap (λ ns. slice_get ns left) (next_names text ts i d within ∙ ap (λ b. cond b (get_or ts i d ∷ names) names) is)) ∙ h
+name_skipped text ts i left same d at within is e h = rw e (rw (drop_more ts i d within, is) at h)
 
 -- a list that has its numbers fits the names
 
@@ -64,8 +53,7 @@ pub list_fits : (names : List Name) (fs : List FormulaSyntax) (list : FormulaTre
     numbered_list names fs ≡ Some (members_in list) →
     formulas_fit names list ≡ true
 list_fits names fs list h is =
-    let same : Some h.trees ≡ Some (members_in list) = sym h.numbered ∙ is in
-    let trees : h.trees ≡ members_in list = cc in
+    let trees = same_Some h.trees (members_in list) (sym h.numbered ∙ is) in
     ap (list_all (formula_fits names)) (sym trees) ∙ h.fit
 
 -- the specification

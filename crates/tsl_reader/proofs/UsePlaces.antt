@@ -1,6 +1,6 @@
 -- Each name that stands in a text has its token, in the same order.
-use Rattle.std.proofs.Common.{◌≡◌, ℕ, zero, suc, List, [], ◌∷◌, map, refl, ap, ◌∙◌}
-use Rattle.std.specs.Prelude.{Option, Some, None, cond, slice_get}
+use Rattle.std.proofs.Common.{◌≡◌, ℕ, List, [], ◌∷◌, map, refl, ap, ◌∙◌}
+use Rattle.std.specs.Prelude.{Option, Some, None, cond}
 use Rattle.tsl_text.specs.declared.Token.{Token}
 use Rattle.tsl_text.specs.declared.TokenKind.{TokenKind}
 use Rattle.tsl_text.specs.declared.TokenKind.TheVariants.{Name as NameKind}
@@ -9,7 +9,6 @@ use Rattle.spec_syntax.specs.declared.syntax.Word.{Word}
 use Rattle.spec_syntax.specs.Syntax.{Terminal, free, word, mark, word_of, free_unless, terminal_of, Declaration}
 use Rattle.spec_syntax.specs.Texts.{terminal_at, terminals}
 use Rattle.tsl_reader.specs.Spells.{deepest_level, Derives, is_free, name_tokens}
-use Rattle.declared_names.specs.Occurrences.{Occurrence}
 use Rattle.declared_names.specs.WrittenNames.{free_names}
 use Rattle.declared_names.specs.WellDeclared.{heads_of, names_in}
 use Rattle.declared_names.proofs.WrittenTexts.{occurrences_texts}
@@ -44,13 +43,3 @@ pub texts_of_names : (text : List ℕ) (tokens : List Token) (own : List Termina
     map (λ o. o.text) (names_in ds) ≡ map (token_text text) (name_tokens text tokens)
 texts_of_names text tokens own ds d =
     occurrences_texts (heads_of ds) deepest_level (terminals text tokens) own ds d.derived ∙ each_name text tokens
-
--- a name of a list has its token in the list of theirs
-pub token_of_name : (os : List Occurrence) (ts : List Token) (text : List ℕ) (at : ℕ) (o : Occurrence) →
-    map (λ o. o.text) os ≡ map (token_text text) ts → slice_get os at ≡ Some o → (token : Token) × (slice_get ts at ≡ Some token)
-token_of_name [] ts text at o same h = cc
-token_of_name (v ∷ os) [] text at o same h = cc
-token_of_name (v ∷ os) (t ∷ ts) text zero o same h = (t, refl)
-token_of_name (v ∷ os) (t ∷ ts) text (suc at) o same h =
-    let others : map (λ o. o.text) os ≡ map (token_text text) ts = cc in
-    token_of_name os ts text at o others h

@@ -49,6 +49,21 @@ fn nodes_of_sections(heads: &Names, sizes: &[Size], sections: &[ReadSection]) ->
     nodes
 }
 
+/// The expansion of a formula, without brackets. An `Err` says that memory ran out.
+#[tactic(auto, using(crate::proofs::BareExpansions::as_many))]
+fn bare_expansion<'a>(
+    alloc: Global,
+    heads: &Names,
+    definitions: &[ReadDefinition<'a>],
+    formula: &ReadFormula<'a>,
+) -> Result<ReadFormula<'a>, NoMemory>
+    requires { AreHeads heads.now definitions.now }
+    ensures { IfOk result (λ expanded. formula_syntax expanded
+        ≡ bare_expansion (map definition_of definitions.now) (formula_syntax formula.now)) }
+{
+    expansion(alloc, heads, definitions, heads.count(), formula)
+}
+
 /// The expansions of formulas. An `Err` says that memory ran out.
 fn expanded_formulas<'a>(
     alloc: Global,
@@ -62,7 +77,7 @@ fn expanded_formulas<'a>(
 {
     let mut list = Vec::new(alloc);
     for formula in formulas {
-        list.push(expansion(alloc, heads, definitions, heads.count(), formula)?)?;
+        list.push(bare_expansion(alloc, heads, definitions, formula)?)?;
     }
     Ok(list)
 }
