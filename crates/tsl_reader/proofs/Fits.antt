@@ -2,6 +2,7 @@
 use Rattle.std.proofs.Common.{◌≡◌, ℕ, ◌+◌, ◌≤◌, Bool, true, false, ◌&&◌, ◌||◌, List, [], ◌∷◌, refl, ap, sym, ◌∙◌}
 use Rattle.std.specs.Prelude.{Some, nat_le, max}
 use Rattle.std.specs.List.{list_all, sum_by, AllByRecursion}
+use Rattle.std.proofs.Math.Bool.{or-true}
 use Rattle.std.proofs.lemmas.Bool.{le-leb}
 use Rattle.std.proofs.lemmas.List.Sums.{sum_by-cons}
 use Rattle.sequence.proofs.Bytes.{bytes_same}
@@ -123,11 +124,7 @@ module _ (names : List Name) where
       let asks : is_question names q.number ≡ true = rw q.there (bytes_same q.entry.text question q.text) in
       let named : is_name names q.number Predicate 1 ≡ true = rw (q.there, q.kind, q.arity) in
       atom_good (bare x) (test (record { predicate = q.number; arguments = more_trees (signal s.number) no_trees }))
-      (rw (s.numbered, q.numbered)) (rw (named, term, asks) (or_true (is_usable_at names q.number))) refl
-    where
-      or_true : (is : Bool) → ((is || true) && true) ≡ true
-      or_true true = refl
-      or_true false = refl
+      (rw (s.numbered, q.numbered)) (rw (named, term, asks, or-true (is_usable_at names q.number))) refl
 
   mutual
     formula_good : (f : FormulaSyntax) → IsShaped f → AllByRecursion (KnownUse names) (uses f) → Good names f

@@ -1,6 +1,8 @@
 -- A table of sizes has a table of levels, and by it those uses are too deep that are by the levels themselves: that a table counts
 -- levels up to a bound alone tells no other.
 use Rattle.std.proofs.Common.{◌≡◌, ℕ, ◌+◌, ◌<◌, Bool, true, false, min, List, map, refl, ap, ◌∙◌, arith}
+use Rattle.std.proofs.lemmas.Grind.{common_steps}
+use Rattle.std.proofs.lemmas.Bool.Decides.{nat_tests}
 use Rattle.std.specs.Prelude.{◌&&◌, Option, Some, None, option_map, option_and_then, slice_get, position, nat_lt}
 use Rattle.std.proofs.lemmas.Bool.{ltb-true, ltb-false}
 use Rattle.std.proofs.lemmas.Option.{slice_get-map}
@@ -28,12 +30,7 @@ levels_are heads ds sizes are x = by (number_of heads x) ∙ are.levels x where
 
 -- two numbers that pass a third one at once
 same_test : (most m n : ℕ) → (most < m → most < n) → (most < n → most < m) → nat_lt most m ≡ nat_lt most n
-same_test most m n there back = by (nat_lt most m) (nat_lt most n) refl refl where
-  by : (a b : Bool) → nat_lt most m ≡ a → nat_lt most n ≡ b → a ≡ b
-  by true true h k = refl
-  by false false h k = refl
-  by true false h k = absurd (omega (arith, there (ltb-true most m h), ltb-false most n k))
-  by false true h k = absurd (omega (arith, back (ltb-true most n k), ltb-false most m h))
+same_test most m n there back = grind (arith, common_steps, nat_tests)
 
 stopped_passes : (level : ℕ) (found : Option ℕ) →
     passes_deepest level (option_map (min LEVELS_STOP) found) ≡ passes_deepest level found

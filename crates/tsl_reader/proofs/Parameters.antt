@@ -1,6 +1,7 @@
 -- Parameters, each once: where no name in a head is wrong, all of them.
 use Rattle.std.proofs.Common.{◌≡◌, ℕ, ◌+◌, ◌<◌, Bool, true, false, List, [], ◌∷◌, ◌++◌, map, length, drop, get_or, refl, ap, sym, ◌∙◌, subst}
-use Rattle.std.proofs.Common.{append_assoc, inl, inr}
+use Rattle.std.proofs.Common.{append_assoc, inl, inr, arith}
+use Rattle.std.proofs.lemmas.Grind.{common_steps}
 use Rattle.std.specs.Prelude.{◌&&◌, ◌||◌, None, position, if◌then◌else◌}
 use Rattle.std.specs.List.{AllByRecursion}
 use Rattle.std.specs.Borrow.{Bor}
@@ -35,9 +36,7 @@ texts_of_signals (x ∷ xs) = ap (λ ts. x ∷ ts) (texts_of_signals xs)
 -- ---- where none is redefined, parameters are distinct
 
 parameter_stands : (a b : Bool) → is_redefined (if a || b then Redefined else Parameter) ≡ false → b ≡ false
-parameter_stands true b h = cc
-parameter_stands false true h = cc
-parameter_stands false false h = refl
+parameter_stands a b h = grind (arith, common_steps)
 
 each_once : (heads : List Name) (ps qs : List (List ℕ)) →
     AllByRecursion Stands (map (parameter_name (is_name heads) (is_repeated ps)) qs) → AllByRecursion (λ q. is_repeated ps q ≡ false) qs

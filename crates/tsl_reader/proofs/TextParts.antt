@@ -2,7 +2,8 @@
 use Rattle.std.proofs.Common.{◌≡◌, ℕ, zero, suc, get_or, ◌-◌, ◌<◌, ◌^◌, Bool, List, [], ◌∷◌, map, length, refl, ap, sym, ◌∙◌, subst, arith}
 use Rattle.std.specs.Prelude.{Option, Some, None, option_and_then, position, slice_get}
 use Rattle.std.specs.List.{AllByRecursion}
-use Rattle.std.proofs.lemmas.Option.{none-some}
+use Rattle.std.proofs.lemmas.Option.{none-some, get_or_from_slice_get}
+use Rattle.sequence.proofs.Places.{slice_get_mapped}
 use Rattle.sequence.proofs.Options.{found_place, no_place}
 use Rattle.tsl_text.specs.declared.Token.{Token}
 use Rattle.tsl_terms.specs.Name.{Name, texts}
@@ -97,11 +98,9 @@ text_parts {ds = ds} d read are also once ss qs =
 -- the name of the definition at a place
 pub named_at : (ds : List ReadDefinition) (number : ℕ) (d : ReadDefinition) (e : Definition) → slice_get (map definition_of ds) number ≡ Some e →
     (get_or ds number d).name.now ≡ e.name
-named_at [] number d e h = cc
-named_at (x ∷ ds) zero d e h =
-    let same : definition_of x ≡ e = cc in
-    ap (λ (q : Definition). q.name) same
-named_at (x ∷ ds) (suc number) d e h = named_at ds number d e h
+named_at ds number d e h =
+    let found = slice_get_mapped definition_of ds number e h in
+    ap (λ (x : ReadDefinition). x.name.now) (get_or_from_slice_get ds number found.0 d found.1) ∙ ap (λ (q : Definition). q.name) found.2
 
 -- the texts of heads are the names of the definitions
 texts_of_heads : (ds : List Declaration) → texts (heads_in ds) ≡ map (λ d. d.name) (definitions_in ds)
