@@ -1,11 +1,8 @@
 -- A text has one list of tokens, derives in one way, and spells one specification.
-use Rattle.std.proofs.Common.{◌≡◌, ℕ, zero, suc, ◌-◌, ◌<◌, ◌≤◌, List, [], ◌∷◌, ◌++◌, length, take, drop, refl, ap, sym, ◌∙◌, subst, inl}
-use Rattle.std.proofs.Common.{inr, arith}
-use Rattle.std.proofs.lemmas.List.{map-append, append-nil, length-map, length-drop}
-use Rattle.std.proofs.lemmas.Option.{slice_get_past}
-use Rattle.std.specs.Prelude.{Some, None, Ok, Err, slice_get}
-use Rattle.sequence.proofs.Options.{one_value}
-use Rattle.sequence.proofs.Places.{split_at}
+use Rattle.std.proofs.Common.{◌≡◌, ℕ, ◌≤◌, List, ap, sym, ◌∙◌, subst}
+use Rattle.std.proofs.Common.{arith}
+use Rattle.std.specs.Prelude.{Some, Ok, Err}
+use Rattle.std.proofs.lemmas.Option.{same_Some}
 use Rattle.tsl_text.specs.declared.Token.{Token}
 use Rattle.tsl_text.specs.declared.TextError.{TextError}
 use Rattle.tsl_text.specs.Division.{AreTokens, IsAnswer}
@@ -18,13 +15,10 @@ use Rattle.spec_syntax.specs.declared.syntax.Part.{Part}
 use Rattle.spec_syntax.specs.declared.syntax.Part.TheVariants.{AssumeFirst, AssumeAlways, GuaranteeFirst, GuaranteeAlways}
 use Rattle.spec_syntax.specs.Syntax.{Terminal, SectionSyntax, Declaration}
 use Rattle.spec_syntax.specs.Grammar.{AreSections, AreDeclarations}
-use Rattle.token_readers.specs.Readers.{form, deep}
-use Rattle.spec_syntax.specs.Reading.{declarations}
 use Rattle.tsl_reader.specs.Naming.{names_of, numbered_list, formulas_of_part}
-use Rattle.spec_syntax.specs.Texts.{terminal_at, terminals}
-use Rattle.tsl_reader.specs.Spells.{deepest_level, most_formula_nodes, Derives, IsDerived, Spells, HasWrongToken}
-use Rattle.tsl_reader.specs.Spells.{HasFormFault}
-use Rattle.tsl_reader.specs.Spells.{HasDeepFault, HasTooManyNodes}
+use Rattle.spec_syntax.specs.Texts.{terminals}
+use Rattle.tsl_reader.specs.Spells.{deepest_level, most_formula_nodes, Derives, IsDerived, Spells}
+use Rattle.tsl_reader.specs.Spells.{HasTooManyNodes}
 use Rattle.spec_syntax.proofs.ExactSections.{one_tree}
 use Rattle.spec_syntax.proofs.DeclarationLaws as declared
 use Rattle.named_formulas.specs.DefinitionView.{named_in}
@@ -32,8 +26,6 @@ use Rattle.named_formulas.specs.TextExpansion.{Expands}
 use Rattle.named_formulas.specs.WellUsed.{as_written}
 use Rattle.named_formulas.proofs.OneExpansion.{one_expansion}
 use Rattle.declared_names.specs.Heads.{definitions_in}
-use Rattle.spec_syntax.proofs.ExactDeclarations.{declarations_exact}
-use Rattle.spec_syntax.proofs.FirstFaults as first
 
 -- a text has one list of tokens
 pub one_list : (text : List ℕ) (a b : List Token) → AreTokens text a → AreTokens text b → a ≡ b
@@ -72,13 +64,10 @@ one_expanded ds es own other xs ys ss rs same alike h k s r =
 abbrev spec_from : List Name → List FormulaTree → List FormulaTree → List FormulaTree → List FormulaTree → SpecTree
 spec_from names a b c d = record { names = names; assume_first = a; assume_always = b; guarantee_first = c; guarantee_always = d }
 
-numbered_alike : (m n : List Name) (ss rs : List SectionSyntax) (part : Part) (x y : List FormulaTree) → m ≡ n → ss ≡ rs →
+numbered_alike : {m n : List Name} {ss rs : List SectionSyntax} {x y : List FormulaTree} (part : Part) → m ≡ n → ss ≡ rs →
     numbered_list m (formulas_of_part part ss) ≡ Some x → numbered_list n (formulas_of_part part rs) ≡ Some y → x ≡ y
-numbered_alike m n ss rs part x y names sections h k =
-    let same : numbered_list n (formulas_of_part part rs) ≡ Some x =
-    sym (ap (λ names. numbered_list names (formulas_of_part part ss)) names
-    ∙ ap (λ s. numbered_list n (formulas_of_part part s)) sections) ∙ h in
-    one_value (numbered_list n (formulas_of_part part rs)) x y same k
+numbered_alike {x = x} {y = y} part names sections h k =
+    same_Some x y (sym h ∙ (λ i. numbered_list (names i) (formulas_of_part part (sections i))) ∙ k)
 
 -- a text derives from one specification
 pub one_derived : (text : List ℕ) (a b : SpecTree) → IsDerived text a → IsDerived text b → a ≡ b
@@ -87,19 +76,10 @@ one_derived text a b x y =
     let sections : x.sections ≡ y.sections = one_expanded x.declarations y.declarations x.own y.own x.expanded y.expanded x.sections y.sections whole.0 whole.1
     x.expands y.expands x.sections_are y.sections_are in
     let names : a.names ≡ b.names = x.names ∙ ap names_of sections ∙ sym y.names in
-    let assume_first : a.assume_first ≡ b.assume_first =
-    numbered_alike a.names b.names x.sections y.sections AssumeFirst a.assume_first b.assume_first names sections x.assume_first
-    y.assume_first in
-    let assume_always : a.assume_always ≡ b.assume_always =
-    numbered_alike a.names b.names x.sections y.sections AssumeAlways a.assume_always b.assume_always names sections x.assume_always
-    y.assume_always in
-    let guarantee_first : a.guarantee_first ≡ b.guarantee_first =
-    numbered_alike a.names b.names x.sections y.sections GuaranteeFirst a.guarantee_first b.guarantee_first names sections
-    x.guarantee_first y.guarantee_first in
-    let guarantee_always : a.guarantee_always ≡ b.guarantee_always =
-    numbered_alike a.names b.names x.sections y.sections GuaranteeAlways a.guarantee_always b.guarantee_always names sections
-    x.guarantee_always y.guarantee_always in
-    λ i. spec_from (names i) (assume_first i) (assume_always i) (guarantee_first i) (guarantee_always i)
+    λ i. spec_from (names i) (numbered_alike AssumeFirst names sections x.assume_first y.assume_first i)
+    (numbered_alike AssumeAlways names sections x.assume_always y.assume_always i)
+    (numbered_alike GuaranteeFirst names sections x.guarantee_first y.guarantee_first i)
+    (numbered_alike GuaranteeAlways names sections x.guarantee_always y.guarantee_always i)
 
 -- a text spells one specification
 pub one_spec : (text : List ℕ) (a b : SpecTree) → Spells text a → Spells text b → a ≡ b

@@ -3,27 +3,21 @@ use Rattle.std.proofs.Common.{◌≡◌, ℕ, ◌<◌, ◌≤◌, List, map, ref
 use Rattle.std.specs.Prelude.{None, min, position}
 use Rattle.tsl_text.specs.declared.Token.{Token}
 use Rattle.tsl_terms.specs.Name.{Name}
-use Rattle.tsl_terms.specs.SpecTree.{SpecTree}
 use Rattle.spec_syntax.specs.declared.syntax.Part.TheVariants.{AssumeFirst, AssumeAlways, GuaranteeFirst, GuaranteeAlways}
 use Rattle.spec_syntax.specs.Syntax.{Terminal, SectionSyntax, Definition, Declaration, sections_among}
-use Rattle.spec_syntax.specs.Grammar.{AreSections}
 use Rattle.named_formulas.specs.declared.sizing.Size.{Size}
 use Rattle.named_formulas.specs.declared.sizing.TheConstants.{NODES_STOP}
-use Rattle.named_formulas.specs.declared.definitions.ReadDefinition.{ReadDefinition}
-use Rattle.named_formulas.specs.DefinitionView.{definition_of, named_in}
 use Rattle.named_formulas.specs.Uses.{IsOrder}
-use Rattle.named_formulas.specs.TextExpansion.{Expands}
-use Rattle.named_formulas.specs.WellUsed.{as_written}
 use Rattle.named_formulas.specs.SectionExpansion.{expanded_sections}
 use Rattle.named_formulas.specs.ExpansionSizes.{AreSizes}
 use Rattle.declared_names.specs.Heads.{definitions_in}
 use Rattle.declared_names.specs.Occurrences.{Occurrence}
 use Rattle.declared_names.specs.Faults.{has_kind_fault, has_arity_fault}
-use Rattle.declared_names.specs.WellDeclared.{heads_of, names_in, AreNamedWell, is_use_too_deep}
+use Rattle.declared_names.specs.WellDeclared.{heads_of, names_in, is_use_too_deep}
 use Rattle.declared_names.proofs.Expanded.{expansion_fits}
 use Rattle.tsl_reader.specs.Naming.{names_of}
-use Rattle.tsl_reader.specs.Spells.{deepest_level, most_formula_nodes, Derives, HasTooManyNodes}
-use Rattle.tsl_reader.specs.ReadText.{AreTextNames, AreTextParts, AreWell, AreExpanded}
+use Rattle.tsl_reader.specs.Spells.{most_formula_nodes, HasTooManyNodes}
+use Rattle.tsl_reader.specs.ReadText.{AreTextParts, AreWell, AreExpanded}
 use Rattle.tsl_reader.specs.Expanding.{replacing_in, expanded_bare, nodes_of_sections}
 use Rattle.tsl_reader.proofs.BareExpansions.{bare_stand, sections_few}
 use Rattle.tsl_reader.proofs.ExpandedTexts.{TextExpands, list_good}

@@ -1,5 +1,5 @@
 -- A specification has at most one name more than its text has bytes, whatever its definitions expand to.
-use Rattle.std.proofs.Common.{◌≡◌, ℕ, suc, ◌<◌, ◌≤◌, Bool, true, false, cond, List, [], ◌∷◌, ◌++◌, map, length, refl, ap, sym, ◌∙◌, subst, arith}
+use Rattle.std.proofs.Common.{◌≡◌, ℕ, suc, ◌≤◌, Bool, true, false, cond, List, [], ◌∷◌, ◌++◌, map, length, refl, ap, sym, ◌∙◌, subst, arith}
 use Rattle.std.specs.Prelude.{Option, Some, None, flat_map, option_map}
 use Rattle.std.specs.Cmp.{IsEquivalence}
 use Rattle.std.specs.List.{AllByRecursion, IsDistinct, list_any}
@@ -10,7 +10,7 @@ use Rattle.std.proofs.lemmas.Option.{slice_get-map}
 use Rattle.std.proofs.lemmas.Map.Keys.{IsDistinct-push}
 use Rattle.std.proofs.lemmas.Map.Made.{length-le_from_is_member}
 use Rattle.sequence.proofs.Bytes.{same_bytes, bytes_same}
-use Rattle.sequence.proofs.Each.{each_at, each_from_places, each_joined, each_weaker}
+use Rattle.sequence.proofs.Each.{each_at, each_from_places, each_joined}
 use Rattle.sequence.proofs.Passes.{list_any_place, list_any_contained}
 use Rattle.sequence.proofs.Places.{contains_at}
 use Rattle.tsl_terms.specs.Name.{Name, number_of, question, texts}
@@ -29,10 +29,12 @@ pub kept_by_uses : (Q : List Name → Type 0) (P : Name → Type 0) →
     ((names : List Name) (u : Name) → number_of names u.text ≡ None → Q names → P u → Q (names ++ u ∷ [])) →
     (us names : List Name) → Q names → AllByRecursion P us → Q (with_uses names us)
 kept_by_uses Q P more [] names holds each = holds
-kept_by_uses Q P more (u ∷ us) names holds each = kept_by_uses Q P more us (with_use names u) (by (number_of names u.text) refl) each.1 where
-  by : (found : Option ℕ) → number_of names u.text ≡ found → Q (added_unless_found names u found)
-  by (Some number) is = holds
-  by None is = more names u is holds each.0
+kept_by_uses Q P more (u ∷ us) names holds each =
+    kept_by_uses Q P more us (with_use names u) (by (number_of names u.text) refl) each.1
+  where
+    by : (found : Option ℕ) → number_of names u.text ≡ found → Q (added_unless_found names u found)
+    by (Some number) is = holds
+    by None is = more names u is holds each.0
 
 texts_equal : IsEquivalence bytes_eq
 texts_equal = record {

@@ -1,5 +1,5 @@
 -- The numbered formulas of a text fit its names, and have as many nodes as are told from their syntax.
-use Rattle.std.proofs.Common.{◌≡◌, ℕ, ◌+◌, ◌≤◌, Bool, true, false, ◌&&◌, ◌||◌, List, [], ◌∷◌, refl, ap, sym, ◌∙◌}
+use Rattle.std.proofs.Common.{◌≡◌, ℕ, ◌+◌, true, false, List, [], ◌∷◌, refl, ap, sym, ◌∙◌}
 use Rattle.std.specs.Prelude.{Some, nat_le, max}
 use Rattle.std.specs.List.{list_all, sum_by, AllByRecursion}
 use Rattle.std.proofs.Math.Bool.{or-true}
@@ -9,8 +9,7 @@ use Rattle.sequence.proofs.Bytes.{bytes_same}
 use Rattle.sequence.proofs.Each.{each_left, each_right}
 use Rattle.sequence.proofs.Passes.{list_all_joined}
 use Rattle.tsl_terms.specs.declared.names.NameKind.TheVariants.{Signal, Function, Predicate}
-use Rattle.tsl_text.specs.Names.{is_usable}
-use Rattle.tsl_terms.specs.Name.{Name, number_of, is_name, same_kind, question}
+use Rattle.tsl_terms.specs.Name.{Name, is_name, question}
 use Rattle.tsl_terms.specs.TermTree.{TermTree, signal, apply, TermTrees, no_terms as no_trees, more_terms as more_trees, count_of_terms}
 use Rattle.tsl_terms.specs.FormulaTree.{Atom, test, update, FormulaTree, FormulaTrees, constant, atom, unary, binary, many}
 use Rattle.tsl_terms.specs.FormulaTree.{no_formulas as no_members, more_formulas as more_members}
@@ -22,11 +21,10 @@ use Rattle.spec_syntax.specs.Syntax.{TermSyntax, alone, applied, grouped_term, T
 use Rattle.spec_syntax.specs.Syntax.{falsehood, bare, tested, updated, grouped, under, between, joined, FormulasSyntax, no_formulas}
 use Rattle.spec_syntax.specs.Syntax.{more_formulas}
 use Rattle.named_formulas.specs.Folds.{fold_term, fold_terms, fold, fold_members, node_counts}
-use Rattle.tsl_reader.specs.Naming.{use_as, tested_signal, question_use, count_of_arguments, term_uses, terms_uses, uses, members_uses}
-use Rattle.tsl_reader.specs.Naming.{numbered_term, numbered_terms, test_of, numbered_formula, numbered_members, numbered_list}
+use Rattle.tsl_reader.specs.Naming.{use_as, tested_signal, count_of_arguments, term_uses, terms_uses, uses, members_uses}
+use Rattle.tsl_reader.specs.Naming.{numbered_term, numbered_terms, numbered_formula, numbered_members, numbered_list}
 use Rattle.tsl_reader.proofs.Shapes.{IsShaped, AreShaped, HasTwo, bracketed, nesting, nesting_of_arguments}
-use Rattle.tsl_reader.proofs.Known.{Known, KnownUse}
-use Rattle.tsl_reader.proofs.Usable.{IsUsable}
+use Rattle.tsl_reader.proofs.Known.{KnownUse}
 
 -- A term that has its numbers, fits, nests as before, and counts its nodes.
 record TermGood (names : List Name) (t : TermSyntax) : Type 0 where
@@ -135,8 +133,9 @@ module _ (names : List Name) where
         let arguments = terms_good names ts k.1 in
         let u : KnownUse names (use_as Predicate p (count_of_arguments ts)) = k.0 in
         let n = u.name in
-        let shallow : nat_le (brackets_of_arguments arguments.trees) most_brackets ≡ true = rw arguments.deep (le-leb _ most_brackets shape) in
-        atom_good (tested p ts) (test (record { predicate = n.number; arguments = arguments.trees })) (rw (n.numbered, arguments.numbered_are))
+        let trees = arguments.trees in
+        let shallow : nat_le (brackets_of_arguments trees) most_brackets ≡ true = rw arguments.deep (le-leb _ most_brackets shape) in
+        atom_good (tested p ts) (test (record { predicate = n.number; arguments = trees })) (rw (n.numbered, arguments.numbered_are))
         (rw (n.there, n.kind, arguments.count, n.arity, n.text, u.usable, arguments.fit, shallow)) (ap (λ m. 1 + m) arguments.nodes_are)
     formula_good (updated x t) shape k =
         let term = term_good names t k.1 in

@@ -1,9 +1,9 @@
 -- What the answers of the reader of declarations say of a text with these tokens.
-use Rattle.std.proofs.Common.{◌≡◌, ℕ, suc, ◌-◌, ◌≤◌, List, [], ◌∷◌, ◌++◌, length, take, drop, refl, ap, sym, ◌∙◌, subst, inl, inr, arith}
+use Rattle.std.proofs.Common.{◌≡◌, ℕ, suc, ◌-◌, ◌≤◌, List, [], ◌∷◌, ◌++◌, length, take, drop, ap, sym, ◌∙◌, subst, inl, inr, arith}
 use Rattle.std.proofs.Common.{length-append, length-drop}
 use Rattle.std.proofs.lemmas.List.{map-append, append-nil, length-map, take-append-drop}
 use Rattle.std.proofs.lemmas.Option.{slice_get_past}
-use Rattle.std.specs.Prelude.{Some, None, Ok, Err, slice_get, MatchOption}
+use Rattle.std.specs.Prelude.{Ok, Err, slice_get, MatchOption}
 use Rattle.sequence.proofs.Places.{slice_get-behind}
 use Rattle.tsl_text.specs.declared.Token.{Token}
 use Rattle.tsl_text.specs.Division.{AreTokens}

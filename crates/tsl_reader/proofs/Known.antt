@@ -1,7 +1,7 @@
 -- The names of a specification know each use: its number names what it is used as.
 use Rattle.std.proofs.Common.{◌≡◌, ℕ, ◌==◌, Bool, true, false, List, [], ◌∷◌, ◌++◌, refl, ap, sym, ◌∙◌, inl, inr, ⊎_elim, arith}
 use Rattle.std.proofs.lemmas.Grind.{common_steps}
-use Rattle.std.specs.Prelude.{Option, Some, None, zero, suc, cond, slice_get, flat_map, option_and_then, IsTrue, ◌⊎◌}
+use Rattle.std.specs.Prelude.{Some, zero, suc, cond, slice_get, flat_map, option_and_then, IsTrue, ◌⊎◌}
 use Rattle.std.specs.List.{AllByRecursion}
 use Rattle.std.specs.Str.{bytes_eq}
 use Rattle.sequence.proofs.Bytes.{same_bytes}

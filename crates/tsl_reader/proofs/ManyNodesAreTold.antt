@@ -101,7 +101,8 @@ module _ (ds : List Definition) where
   all_whole : (ss : List SectionSyntax) →
       flat_map (λ s. s.formulas) (expanded_sections (replacing_in ds) ss) ≡ map whole (flat_map (λ s. s.formulas) ss)
   all_whole [] = refl
-  all_whole (s ∷ ss) = ap (λ fs. map whole s.formulas ++ fs) (all_whole ss) ∙ sym (map-append whole s.formulas (flat_map (λ r. r.formulas) ss))
+  all_whole (s ∷ ss) =
+      ap (λ fs. map whole s.formulas ++ fs) (all_whole ss) ∙ sym (map-append whole s.formulas (flat_map (λ r. r.formulas) ss))
 
   sections_told : (ss : List SectionSyntax) →
       sum_by (fold node_counts) (flat_map (λ s. s.formulas) (expanded_sections (replacing_in ds) ss)) ≡ nodes_of_sections ds ss

@@ -1,7 +1,7 @@
 -- Lists of terms and of formulas that get numbers member by member.
-use Rattle.std.proofs.Common.{◌≡◌, Bool, true, false, List, [], ◌∷◌, ◌++◌, map, refl, ap, sym, ◌∙◌}
-use Rattle.std.specs.Prelude.{ℕ, ◌+◌, ◌<◌, ◌≤◌, cond, length, get_or, drop, filter, flat_map, Option, Some, None, option_map}
-use Rattle.std.specs.Prelude.{option_and_then, if◌then◌else◌}
+use Rattle.std.proofs.Common.{◌≡◌, true, List, [], ◌∷◌, ◌++◌, map, refl, ap, sym, ◌∙◌}
+use Rattle.std.specs.Prelude.{ℕ, ◌+◌, ◌<◌, ◌≤◌, length, get_or, drop, Option, Some, None, option_map}
+use Rattle.std.specs.Prelude.{option_and_then}
 use Rattle.std.proofs.Common.{append_assoc, arith}
 use Rattle.std.proofs.lemmas.Grind.{common_steps}
 use Rattle.std.proofs.lemmas.List.{append-nil, drop_more, drop_all}
@@ -21,7 +21,7 @@ use Rattle.spec_syntax.specs.Syntax.{TermSyntax, TermsSyntax, more_terms as anot
 use Rattle.spec_syntax.specs.Syntax.{more_formulas as another_formula, SectionSyntax}
 use Rattle.spec_syntax.specs.SyntaxView.{section_syntax}
 use Rattle.tsl_reader.specs.Numbering.{formulas_after, formulas_if}
-use Rattle.tsl_reader.specs.Naming.{numbered_term, numbered_terms, numbered_formula, numbered_members, numbered_list, same_part}
+use Rattle.tsl_reader.specs.Naming.{numbered_term, numbered_terms, numbered_formula, numbered_members, numbered_list}
 use Rattle.tsl_reader.specs.Naming.{formulas_of_part}
 
 -- one member more in front of those that are left
@@ -97,12 +97,8 @@ pub section_some : (names : List Name) (part : Part) (ss : List ReadSection) (i 
     formulas_after front (numbered_list names (formulas_of_part part (map section_syntax (drop i ss)))) ≡ all → is_some all ≡ true →
     is_some (numbered_list names (formulas_if part (section_syntax (get_or ss i d)))) ≡ true
 section_some names part ss i d front all within h k =
-    let first = formulas_if part (section_syntax (get_or ss i d)) in
-    let rest = formulas_of_part part (map section_syntax (drop (i + 1) ss)) in
-    some_first front (numbered_list names first) (numbered_list names rest)
-    (ap (λ found. is_some (formulas_after front found)) (sym (numbered_append names first rest)
-    ∙ ap (numbered_list names) (sym (next_section part ss i d within)))
-    ∙ ap is_some h ∙ k)
+    let split = rw (next_section part ss i d within, numbered_append) at h in
+    some_first front (numbered_list names (formulas_if part (section_syntax (get_or ss i d)))) _ (ap is_some split ∙ k)
 
 -- one section more
 pub section_more : (names : List Name) (part : Part) (ss : List ReadSection) (i : ℕ) (d : ReadSection) (front more : List FormulaTree)
@@ -111,11 +107,8 @@ pub section_more : (names : List Name) (part : Part) (ss : List ReadSection) (i 
     formulas_after front (numbered_list names (formulas_of_part part (map section_syntax (drop i ss)))) ≡ all →
     formulas_after more (numbered_list names (formulas_of_part part (map section_syntax (drop (i + 1) ss)))) ≡ all
 section_more names part ss i d front more all within e h =
-    let first = formulas_if part (section_syntax (get_or ss i d)) in
-    let rest = formulas_of_part part (map section_syntax (drop (i + 1) ss)) in
-    after_first front (numbered_list names first) (numbered_list names rest) more e
-    ∙ ap (formulas_after front) (sym (numbered_append names first rest) ∙ ap (numbered_list names) (sym (next_section part ss i d within)))
-    ∙ h
+    let split = rw (next_section part ss i d within, numbered_append) at h in
+    after_first front (numbered_list names (formulas_if part (section_syntax (get_or ss i d)))) _ more e ∙ split
 
 members_in_of : (fs : List FormulaTree) → members_in (formulas_of fs) ≡ fs
 members_in_of [] = refl
@@ -127,6 +120,5 @@ pub sections_all : (names : List Name) (part : Part) (ss : List ReadSection) (i 
     formulas_after front (numbered_list names (formulas_of_part part (map section_syntax (drop i ss)))) ≡ all → list ≡ formulas_of front →
     all ≡ Some (members_in list)
 sections_all names part ss i front all list past h is =
-    sym (ap (λ rs. formulas_after front (numbered_list names (formulas_of_part part (map section_syntax rs)))) (sym
-    (drop_all i ss past)) ∙ h)
-    ∙ ap Some (append-nil front ∙ sym (members_in_of front) ∙ ap members_in (sym is))
+    let whole = rw (drop_all i ss past) at h in
+    sym whole ∙ ap Some (append-nil front ∙ sym (members_in_of front) ∙ ap members_in (sym is))

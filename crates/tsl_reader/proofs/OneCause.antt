@@ -52,8 +52,8 @@ byte_faults text = record {
 -- ---- the first token that no text goes on with
 
 -- the first member with which no list of a kind begins stands at one place
-one_stop : {A : Type 0} (Starts : List A → Type 0) → ((p q : List A) → Starts (p ++ q) → Starts p) → (b c : List A) (t u : A) (a e : List A) →
-    b ++ t ∷ a ≡ c ++ u ∷ e → Starts b → (Starts (b ++ t ∷ []) → ⊥) → Starts c → (Starts (c ++ u ∷ []) → ⊥) → (b ≡ c) × (t ≡ u)
+one_stop : {A : Type 0} (Starts : List A → Type 0) → ((p q : List A) → Starts (p ++ q) → Starts p) →
+    (b c : List A) (t u : A) (a e : List A) → b ++ t ∷ a ≡ c ++ u ∷ e → Starts b → (Starts (b ++ t ∷ []) → ⊥) → Starts c → (Starts (c ++ u ∷ []) → ⊥) → (b ≡ c) × (t ≡ u)
 one_stop Starts shorter [] [] t u a e same first stops second ends = (refl, heads t u a e same)
 one_stop Starts shorter [] (y ∷ c) t u a e same first stops second ends =
     absurd (stops (subst (λ z. Starts (z ∷ [])) (sym (heads t y a (c ++ u ∷ e) same)) (shorter (y ∷ []) c second)))

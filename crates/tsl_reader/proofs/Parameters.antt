@@ -1,6 +1,6 @@
 -- Parameters, each once: where no name in a head is wrong, all of them.
-use Rattle.std.proofs.Common.{◌≡◌, ℕ, ◌+◌, ◌<◌, Bool, true, false, List, [], ◌∷◌, ◌++◌, map, length, drop, get_or, refl, ap, sym, ◌∙◌, subst}
-use Rattle.std.proofs.Common.{append_assoc, inl, inr, arith}
+use Rattle.std.proofs.Common.{◌≡◌, ℕ, ◌+◌, ◌<◌, Bool, true, false, List, [], ◌∷◌, ◌++◌, map, length, drop, get_or, refl, ap, sym, ◌∙◌}
+use Rattle.std.proofs.Common.{subst, append_assoc, inl, inr, arith}
 use Rattle.std.proofs.lemmas.Grind.{common_steps}
 use Rattle.std.specs.Prelude.{◌&&◌, ◌||◌, None, position, if◌then◌else◌}
 use Rattle.std.specs.List.{AllByRecursion}
@@ -51,7 +51,8 @@ repeated_behind : (before : List (List ℕ)) (x : List ℕ) (after : List (List 
 repeated_behind [] x after h = cc
 repeated_behind (p ∷ ps) x after h =
     let rest = ps ++ x ∷ after in
-    let there = list_any_contained (bytes_eq x) rest x (contains_at rest (length ps) x (slice_get-behind ps x after)) (bytes_same x x refl) in
+    let at = contains_at rest (length ps) x (slice_get-behind ps x after) in
+    let there = list_any_contained (bytes_eq x) rest x at (bytes_same x x refl) in
     elim (or_cases (bytes_eq x p) (is_among ps x) h) [
       | inl same ↦ or_left (bytes_eq x p && is_among rest x) (is_repeated rest x) (and_from (bytes_eq x p) (is_among rest x) same there)
       | inr later ↦ or_right (bytes_eq x p && is_among rest x) (is_repeated rest x) (repeated_behind ps x after later)

@@ -8,9 +8,7 @@ use Rattle.spec_syntax.specs.Syntax.{SectionSyntax, Declaration, the_section, th
 use Rattle.spec_syntax.specs.Syntax.{sections_among}
 use Rattle.spec_syntax.proofs.DeclarationLaws.{sections_derive}
 use Rattle.named_formulas.specs.declared.definitions.ReadDefinition.{ReadDefinition}
-use Rattle.named_formulas.specs.DefinitionView.{definition_of, named_in}
-use Rattle.named_formulas.specs.TextExpansion.{Expands}
-use Rattle.named_formulas.specs.WellUsed.{as_written}
+use Rattle.named_formulas.specs.DefinitionView.{definition_of}
 use Rattle.declared_names.specs.Heads.{definitions_in}
 use Rattle.declared_names.specs.Occurrences.{Occurrence}
 use Rattle.tsl_reader.specs.Naming.{all_uses, numbered_list, formulas_of_part}

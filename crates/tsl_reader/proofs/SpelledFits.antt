@@ -1,11 +1,9 @@
 -- A spelled specification fits: its names are distinct and may be written, and its formulas fit them.
-use Rattle.std.proofs.Common.{◌≡◌, ℕ, Bool, true, List, [], ◌∷◌, ◌++◌, refl, ap, sym, ◌∙◌, inl, inr}
-use Rattle.std.specs.Prelude.{Option, Some, None, flat_map, IsTrue}
-use Rattle.std.specs.List.{list_all, AllByRecursion}
+use Rattle.std.proofs.Common.{◌≡◌, ℕ, true, List, [], refl, ap, sym, ◌∙◌, inl, inr}
+use Rattle.std.specs.Prelude.{Some, flat_map, IsTrue}
+use Rattle.std.specs.List.{list_all}
 use Rattle.std.proofs.lemmas.List.Folds.{list_all-append}
-use Rattle.std.proofs.lemmas.Bool.{and_from}
-use Rattle.tsl_terms.specs.Name.{Name, number_of}
-use Rattle.tsl_terms.specs.Clashes.{added_unless_found, with_use, with_uses}
+use Rattle.tsl_terms.specs.Name.{Name}
 use Rattle.tsl_terms.specs.FormulaTree.{FormulaTree}
 use Rattle.tsl_terms.specs.SpecTree.{SpecTree}
 use Rattle.tsl_terms.specs.WellFormed.{formula_fits, name_fits, SpecFits}
@@ -15,7 +13,7 @@ use Rattle.spec_syntax.specs.declared.syntax.Part.TheVariants.{AssumeFirst, Assu
 use Rattle.tsl_reader.specs.Naming.{all_uses, named_by, names_of, numbered_list, formulas_of_part}
 use Rattle.tsl_reader.specs.Spells.{IsDerived, Spells}
 use Rattle.tsl_reader.proofs.FewNames.{kept_by_uses}
-use Rattle.sequence.proofs.Passes.{list_all_push, list_all_joined}
+use Rattle.sequence.proofs.Passes.{list_all_push}
 use Rattle.tsl_reader.proofs.Known.{MayBeNamed, each_named}
 use Rattle.tsl_reader.proofs.ExpandedTexts.{TextExpands, usable, list_good}
 

@@ -1,14 +1,12 @@
 -- Steps of reading a text, over plain variables.
-use Rattle.std.proofs.Common.{◌≡◌, ℕ, zero, suc, ◌+◌, ◌-◌, ◌<◌, ◌≤◌, ◌^◌, Bool, true, false, cond, List, ◌∷◌, length, get_or, drop}
-use Rattle.std.proofs.Common.{refl, ap, sym, ◌∙◌, arith}
+use Rattle.std.proofs.Common.{◌≡◌, ℕ, suc, ◌+◌, ◌-◌, ◌<◌, Bool, true, false, List, length, get_or, drop}
+use Rattle.std.proofs.Common.{ap, sym, ◌∙◌, arith}
 use Rattle.std.proofs.lemmas.Bool.{leb-true, leb-false}
 use Rattle.std.proofs.lemmas.List.{drop_more}
 use Rattle.std.proofs.lemmas.Option.{same_Some}
 use Rattle.std.specs.List.{list_all}
-use Rattle.std.specs.Prelude.{Option, Some, None, Ok, Err, slice_get, flat_map, nat_le, MatchOption}
-use Rattle.sequence.proofs.Places.{slice_get_some}
+use Rattle.std.specs.Prelude.{Option, Some, slice_get, flat_map, nat_le}
 use Rattle.tsl_text.specs.declared.Token.{Token}
-use Rattle.tsl_text.specs.Division.{AreTokens}
 use Rattle.tsl_terms.specs.Name.{Name}
 use Rattle.tsl_terms.specs.Clashes.{first_uses}
 use Rattle.tsl_terms.specs.FormulaTree.{FormulaTrees, formulas_in as members_in}
@@ -16,21 +14,13 @@ use Rattle.tsl_terms.specs.Nodes.{nodes}
 use Rattle.tsl_terms.specs.SpecTree.{SpecTree, whole_formula}
 use Rattle.tsl_terms.specs.WellFormed.{formula_fits, formulas_fit}
 use Rattle.spec_syntax.specs.declared.syntax.Part.TheVariants.{AssumeFirst, AssumeAlways, GuaranteeFirst, GuaranteeAlways}
-use Rattle.spec_syntax.specs.declared.terminal.Terminal.{Terminal as LentTerminal}
-use Rattle.spec_syntax.specs.Syntax.{Terminal, FormulaSyntax, SectionSyntax, Declaration}
-use Rattle.token_readers.specs.Readers.{form, deep}
-use Rattle.spec_syntax.specs.Reading.{declarations}
-use Rattle.tsl_reader.specs.Naming.{Use, all_uses, named_by, names_of, numbered_list, formulas_of_part}
+use Rattle.spec_syntax.specs.Syntax.{FormulaSyntax, SectionSyntax}
+use Rattle.tsl_reader.specs.Naming.{named_by, names_of, numbered_list, formulas_of_part}
 use Rattle.tsl_reader.specs.Numbering.{HasNumbers}
-use Rattle.spec_syntax.specs.Texts.{terminal_at, terminals}
-use Rattle.tsl_reader.specs.Spells.{deepest_level, is_free, name_tokens, HasFormFault, HasDeepFault}
+use Rattle.spec_syntax.specs.Texts.{terminal_at}
+use Rattle.tsl_reader.specs.Spells.{is_free, name_tokens}
 use Rattle.tsl_reader.specs.Spells.{IsDerived, Spells, HasTooManyNodes, most_formula_nodes}
-use Rattle.tsl_reader.specs.ReadText.{AreDeclared, AreExpanded}
-use Rattle.spec_syntax.specs.SyntaxView.{terminals_view}
-use Rattle.spec_syntax.proofs.ExactDeclarations.{declarations_exact}
-use Rattle.spec_syntax.proofs.FirstFaults as first
-use Rattle.spec_syntax.proofs.ExactDeclarations.{declarations_derive}
-use Rattle.tsl_reader.proofs.FewNames.{names_within}
+use Rattle.tsl_reader.specs.ReadText.{AreExpanded}
 
 -- the names among the tokens that are left
 
@@ -81,11 +71,6 @@ derives_spec text ss names spec e named are a b c d = record {
   guarantee_first = sym (e.stand_for.numbers spec.names GuaranteeFirst) ∙ (rw are c);
   guarantee_always = sym (e.stand_for.numbers spec.names GuaranteeAlways) ∙ (rw are d);
 }
-
--- not more names than fit
-pub few_firsts : (ss : List SectionSyntax) (us : List Use) (names : List Name) → suc (length (all_uses ss)) < 2 ^ 32 →
-    names ≡ flat_map named_by us → us ≡ all_uses ss → length (first_uses names) < 2 ^ 32
-few_firsts ss us names few is are = rw (is, are) (omega (arith, few, names_within (all_uses ss)))
 
 -- how many nodes the whole formula has
 

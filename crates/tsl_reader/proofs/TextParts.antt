@@ -1,5 +1,5 @@
 -- What is known of a text whose tokens derive: its bounds, its defined names, and what is known of its parts.
-use Rattle.std.proofs.Common.{◌≡◌, ℕ, zero, suc, get_or, ◌-◌, ◌<◌, ◌^◌, Bool, List, [], ◌∷◌, map, length, refl, ap, sym, ◌∙◌, subst, arith}
+use Rattle.std.proofs.Common.{◌≡◌, ℕ, get_or, ◌-◌, ◌<◌, ◌^◌, Bool, List, [], ◌∷◌, map, length, refl, ap, sym, ◌∙◌, subst, arith}
 use Rattle.std.specs.Prelude.{Option, Some, None, option_and_then, position, slice_get}
 use Rattle.std.specs.List.{AllByRecursion}
 use Rattle.std.proofs.lemmas.Option.{none-some, get_or_from_slice_get}
@@ -16,7 +16,7 @@ use Rattle.declared_names.specs.Heads.{definitions_in, heads_in, heads_size}
 use Rattle.declared_names.specs.Occurrences.{Occurrence, occurrences}
 use Rattle.declared_names.specs.Faults.{is_redefined, is_head_of, has_kind_fault, has_arity_fault}
 use Rattle.declared_names.specs.WrittenNames.{IsBelowDepth}
-use Rattle.declared_names.specs.WellDeclared.{heads_of, names_in, NoneOnCycle, AreNamedWell, is_use_too_deep}
+use Rattle.declared_names.specs.WellDeclared.{heads_of, names_in, AreNamedWell, is_use_too_deep}
 use Rattle.declared_names.proofs.Bounds.{heads_within, levels_below}
 use Rattle.declared_names.proofs.WholeText.{heads_stand}
 use Rattle.declared_names.proofs.HeadPlaces.{ordered_are_acyclic, head_place}
@@ -158,9 +158,9 @@ module _ {text : List ℕ} {tokens : List Token} {heads : List Name} {all : List
       named = told p.named (λ hs os. is_head_of cycle.definition.name) is found;
     }
 
-    pub cycle_told : {ds : List Definition} {token : Token} → AreTextParts text tokens heads all sections ds → (cycle : IsFirstOnCycle ds number) →
-        place ≡ position (is_head_of cycle.definition.name) all → Some token ≡ option_and_then (slice_get (name_tokens text tokens)) place →
-        HasCycleFault text token.start token.end
+    pub cycle_told : {ds : List Definition} {token : Token} → AreTextParts text tokens heads all sections ds →
+        (cycle : IsFirstOnCycle ds number) → place ≡ position (is_head_of cycle.definition.name) all →
+        Some token ≡ option_and_then (slice_get (name_tokens text tokens)) place → HasCycleFault text token.start token.end
     cycle_told {token = token} p cycle is found =
         subst (λ qs. (cycle : IsFirstOnCycle qs number) → place ≡ position (is_head_of cycle.definition.name) all →
         HasCycleFault text token.start token.end) (sym p.definitions_are) (cycle_of p found) cycle is
@@ -174,7 +174,8 @@ module _ {text : List ℕ} {tokens : List Token} {heads : List Name} {all : List
         (rw p.definitions_are at cycle.here) in
         none-some at.0 (sym (none p.named test is nothing) ∙ same p.named test ∙ at.1)
 
-  module _ {ds : List Definition} {place : Option ℕ} {token : Token} (found : Some token ≡ option_and_then (slice_get (name_tokens text tokens)) place) where
+  module _ {ds : List Definition} {place : Option ℕ} {token : Token}
+      (found : Some token ≡ option_and_then (slice_get (name_tokens text tokens)) place) where
     pub kind_told : AreInOrder text tokens heads all sections ds → place ≡ position (has_kind_fault all) all →
         HasKindFault text token.start token.end
     kind_told o is =

@@ -2,9 +2,9 @@
 use Rattle.std.proofs.Common.{◌≡◌, ◌+◌, List, ◌∷◌, ◌++◌, refl, ap}
 use Rattle.std.specs.Prelude.{option_map, option_and_then}
 use Rattle.tsl_terms.specs.declared.names.NameKind.TheVariants.{Signal, Function, Predicate}
-use Rattle.tsl_terms.specs.Name.{Name, number_of, question}
-use Rattle.tsl_terms.specs.TermTree.{signal, apply, no_terms as no_trees, more_terms as more_trees}
-use Rattle.tsl_terms.specs.FormulaTree.{update, FormulaTree, atom, unary, binary, many}
+use Rattle.tsl_terms.specs.Name.{Name, number_of}
+use Rattle.tsl_terms.specs.TermTree.{apply, more_terms as more_trees}
+use Rattle.tsl_terms.specs.FormulaTree.{update, atom, unary, binary, many}
 use Rattle.tsl_terms.specs.FormulaTree.{more_formulas as more_members}
 use Rattle.spec_syntax.specs.Syntax.{TermSyntax, alone, applied, grouped_term, TermsSyntax, no_terms, more_terms, FormulaSyntax, truth}
 use Rattle.spec_syntax.specs.Syntax.{falsehood, bare, tested, updated, grouped, under, between, joined, FormulasSyntax, no_formulas}

@@ -1,9 +1,8 @@
 -- The names of a text's tokens are usable where they are no reserved words.
-use Rattle.std.proofs.Common.{◌≡◌, ℕ, Bool, true, false, ◌||◌, List, [], ◌∷◌, refl, arith}
+use Rattle.std.proofs.Common.{◌≡◌, ℕ, true, false, List, [], ◌∷◌, refl, arith}
 use Rattle.std.proofs.lemmas.Grind.{common_steps}
-use Rattle.std.specs.Prelude.{Option, Some, None, codes, IsTrue, if◌then◌else◌}
+use Rattle.std.specs.Prelude.{Option, Some, None, IsTrue}
 use Rattle.std.specs.List.{AllByRecursion}
-use Rattle.std.specs.Str.{bytes_eq}
 use Rattle.std.proofs.lemmas.List.Elements.{recursion_from_All}
 use Rattle.tsl_text.specs.declared.Token.{Token}
 use Rattle.tsl_text.specs.declared.TokenKind.{TokenKind}
@@ -13,7 +12,6 @@ use Rattle.tsl_text.specs.Lexeme.{IsTokenText, lexeme_from, token_text}
 use Rattle.tsl_text.proofs.Parts.{each_token}
 use Rattle.tsl_text.specs.Names.{is_name_text, is_reserved, is_usable}
 use Rattle.spec_syntax.specs.declared.syntax.Word.{Word}
-use Rattle.spec_syntax.specs.declared.syntax.Word.TheVariants.{Assume, Guarantee, Always, Initially, True, False, X, F, G, U, W, R, A}
 use Rattle.spec_syntax.specs.Syntax.{Terminal, free, word, mark, word_of, free_unless, terminal_of}
 use Rattle.spec_syntax.specs.Texts.{terminal_at, terminals}
 use Rattle.spec_syntax.specs.Written.{free_texts}

@@ -1,13 +1,13 @@
 -- How many uses a term has, and first uses among the names that get numbers.
-use Rattle.std.proofs.Common.{◌≡◌, ℕ, ◌≤◌, Bool, true, false, cond, List, [], ◌∷◌, ◌++◌, map, length, refl, ap, ◌∙◌}
+use Rattle.std.proofs.Common.{◌≡◌, ℕ, ◌≤◌, false, List, [], ◌∷◌, map, length, refl}
 use Rattle.std.proofs.Common.{arith, length-append}
 use Rattle.std.proofs.lemmas.Grind.{common_steps}
-use Rattle.std.specs.Prelude.{Some, flat_map}
+use Rattle.std.specs.Prelude.{flat_map}
 use Rattle.std.specs.Str.{bytes_eq}
 use Rattle.tsl_terms.specs.Name.{question}
 use Rattle.tsl_terms.proofs.FirstUses.{first_of}
 use Rattle.spec_syntax.specs.Syntax.{TermSyntax, alone, applied, grouped_term, TermsSyntax, no_terms, more_terms}
-use Rattle.tsl_reader.specs.Naming.{Use, count_of_arguments, term_uses, terms_uses, question_use, named_by}
+use Rattle.tsl_reader.specs.Naming.{Use, count_of_arguments, term_uses, terms_uses, named_by}
 
 term_is_one : (t : TermSyntax) → 1 ≤ length (term_uses t)
 term_is_one (alone x) = omega arith

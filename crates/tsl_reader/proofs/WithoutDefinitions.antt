@@ -1,12 +1,11 @@
 -- A text without a definition spells what its sections say, with the names as they stand in them.
 use Rattle.std.proofs.Common.{◌≡◌, ℕ, suc, Bool, false, not, List, [], ◌∷◌, ◌++◌, map, refl, ap, sym, ◌∙◌, subst}
-use Rattle.std.specs.Prelude.{Option, Some, None, flat_map, position, slice_get, option_map, cond, ◌&&◌, ◌||◌}
+use Rattle.std.specs.Prelude.{Option, Some, None, flat_map, position, slice_get, option_map, cond, ◌&&◌}
 use Rattle.std.proofs.Math.Bool.{and-false}
-use Rattle.std.specs.List.{AllByRecursion, list_any}
-use Rattle.std.specs.Option.{is_some, option_map_or}
+use Rattle.std.specs.List.{AllByRecursion}
+use Rattle.std.specs.Option.{option_map_or}
 use Rattle.std.proofs.lemmas.Option.{none-some, slice_get-map}
 use Rattle.std.proofs.lemmas.List.{map-append}
-use Rattle.std.proofs.lemmas.Iterator.Adapters.{position_from-zero}
 use Rattle.sequence.proofs.Each.{each_at, each_from_places, each_joined, each_flat_map}
 use Rattle.sequence.proofs.Passes.{list_all_from_places}
 use Rattle.tsl_text.specs.declared.Token.{Token}
@@ -38,7 +37,6 @@ use Rattle.declared_names.specs.Faults.{has_kind_fault, has_arity_fault, is_unli
 use Rattle.declared_names.specs.Faults.{is_unlike_name}
 use Rattle.declared_names.specs.WellDeclared.{AreNamedWell, NoneOnCycle, heads_of, names_in}
 use Rattle.declared_names.proofs.FirstPlain.{unlike_is}
-use Rattle.declared_names.proofs.NameTests.{any_from}
 use Rattle.tsl_reader.specs.Naming.{Use, uses, term_uses, terms_uses, members_uses, section_uses, all_uses, written_uses}
 use Rattle.tsl_reader.specs.Naming.{names_of, numbered_list, formulas_of_part}
 use Rattle.tsl_reader.specs.Spells.{IsDerived, deepest_level}

@@ -23,6 +23,7 @@ use tsl_terms::Names;
 use tsl_text::Token;
 
 /// How many nodes the expansions of formulas have with these before them, up to `NODES_STOP`.
+#[tactic(auto, using(crate::proofs::NodeSums::formula_counted))]
 fn nodes_with(heads: &Names, sizes: &[Size], formulas: &[ReadFormula], before: u32) -> u32
     requires { before ≤ NODES_STOP }
     ensures few { result ≤ NODES_STOP }
@@ -38,6 +39,7 @@ fn nodes_with(heads: &Names, sizes: &[Size], formulas: &[ReadFormula], before: u
 }
 
 /// How many nodes the expansions of the formulas of sections have, up to `NODES_STOP`.
+#[tactic(auto, using(crate::proofs::NodeSums::section_counted))]
 fn nodes_of_sections(heads: &Names, sizes: &[Size], sections: &[ReadSection]) -> u32
     ensures { (ds : List Definition) → AreSizes heads.now ds sizes.now → result
         ≡ min NODES_STOP (nodes_of_sections ds (map section_syntax sections.now)) }

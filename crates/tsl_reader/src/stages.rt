@@ -139,6 +139,7 @@ pub(crate) fn has_few_nodes(spec: &Spec) -> bool
 }
 
 /// The names of sections.
+#[tactic(auto, using(crate::proofs::FewNames::names_within))]
 fn names_of_sections(alloc: Global, sections: &[ReadSection]) -> Result<Names, NoMemory>
     requires { suc (length (all_uses (map section_syntax sections.now))) < 2 ^ 32 }
     ensures { IfOk result (λ names. names ≡ names_of (map section_syntax sections.now)) }
@@ -149,6 +150,7 @@ fn names_of_sections(alloc: Global, sections: &[ReadSection]) -> Result<Names, N
 }
 
 /// The formulas of the sections that go to one list.
+#[tactic(auto, using(crate::proofs::StageLemmas::list_fits))]
 fn list_of(
     alloc: Global,
     names: &Names,

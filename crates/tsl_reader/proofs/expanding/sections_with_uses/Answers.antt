@@ -33,8 +33,8 @@ pub returns-then-nodes_of_sections-gt-MOST_NODES-clause-cause : goal.returns-the
 returns-then-nodes_of_sections-gt-MOST_NODES-clause-cause c =
     let ds = map definition_of c.args.definitions.now in
     let are = subst (AreSizes _ _) (sym c.as_slice-sizes.ensures.value) c.in_ok-sizes.ensures in
-    well_refused (all_well c.requires.parts c.in_ok-order.ensures.order c.in_ok-check_names.ensures.kinds c.in_ok-check_names.ensures.arities)
-    are (c.in_ok-check_uses.ensures.within ds are)
+    let names = c.in_ok-check_names.ensures in
+    well_refused (all_well c.requires.parts c.in_ok-order.ensures.order names.kinds names.arities) are (c.in_ok-check_uses.ensures.within ds are)
     (omega (arith, c.nodes_of_sections.ensures ds are, c.if-nodes_of_sections-gt-MOST_NODES.true))
 
 pub expanded_sections-requires : goal.expanded_sections-requires
@@ -44,7 +44,7 @@ pub returns-clause-expanded : goal.returns-clause-expanded
 returns-clause-expanded c =
     let ds = map definition_of c.args.definitions.now in
     let are = subst (AreSizes _ _) (sym c.as_slice-sizes.ensures.value) c.in_ok-sizes.ensures in
+    let names = c.in_ok-check_names.ensures in
     rw c.in_ok-expanded_sections.ensures
-    (well_expanded (all_well c.requires.parts c.in_ok-order.ensures.order c.in_ok-check_names.ensures.kinds c.in_ok-check_names.ensures.arities)
-    are (c.in_ok-check_uses.ensures.within ds are)
+    (well_expanded (all_well c.requires.parts c.in_ok-order.ensures.order names.kinds names.arities) are (c.in_ok-check_uses.ensures.within ds are)
     (omega (arith, c.nodes_of_sections.ensures ds are, c.if-nodes_of_sections-gt-MOST_NODES.false)))

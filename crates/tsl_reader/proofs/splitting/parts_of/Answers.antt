@@ -1,7 +1,5 @@
-use Rattle.std.proofs.Common.{◌≡◌, length, map, refl, arith}
+use Rattle.std.proofs.Common.{map, refl, arith}
 use Rattle.spec_syntax.specs.Syntax.{sections_among}
-use Rattle.spec_syntax.specs.SyntaxView.{section_syntax}
-use Rattle.named_formulas.specs.DefinitionView.{definition_of}
 use Rattle.declared_names.specs.Heads.{definitions_in}
 use Rattle.tsl_reader.specs.ReadText.{with_names_once}
 use Rattle.tsl_reader.proofs.Splits.{sections_of_each, definitions_of_each, one_taken, few_left, all_taken}

@@ -1,4 +1,4 @@
-use Rattle.std.proofs.Common.{◌≡◌, ap, ◌∙◌}
+use Rattle.std.proofs.Common.{ap, ◌∙◌}
 use Rattle.spec_syntax.specs.SyntaxView.{terminals_view}
 use Rattle.tsl_reader.proofs.FormFaults.{derives, form_left, form_told, deep_left, deep_told}
 use Rattle.tsl_reader.proofs.stages.declarations_of.Goals as goal
