@@ -1,6 +1,7 @@
 -- Expanded sections without brackets stand for those with brackets, and have not more uses than nodes.
-use Rattle.std.proofs.Common.{◌≡◌, ℕ, ◌+◌, ◌≤◌, Bool, true, false, cond, List, [], ◌∷◌, ◌++◌, length, map, refl, ap, arith, length-append}
-use Rattle.std.specs.Prelude.{flat_map, filter, option_map, option_and_then}
+use Rattle.std.proofs.Common.{◌≡◌, ℕ, ◌+◌, ◌≤◌, Bool, true, false, List, [], ◌∷◌, ◌++◌, length, map, refl, ap, sym, ◌∙◌, arith, length-append}
+use Rattle.std.specs.Prelude.{flat_map, option_map, option_and_then, if◌then◌else◌}
+use Rattle.std.proofs.lemmas.List.{length-map}
 use Rattle.std.proofs.lemmas.List.Sums.{sum_by-cons, sum_by-append}
 use Rattle.tsl_terms.specs.declared.operator.BinaryOperator.{BinaryOperator}
 use Rattle.tsl_terms.specs.declared.operator.BinaryOperator.TheVariants.{Implication, Equivalence, Until, WeakUntil, Release}
@@ -10,7 +11,8 @@ use Rattle.spec_syntax.specs.declared.syntax.Part.{Part}
 use Rattle.spec_syntax.specs.Syntax.{TermSyntax, alone, applied, grouped_term, TermsSyntax, no_terms, more_terms, FormulaSyntax, truth}
 use Rattle.spec_syntax.specs.Syntax.{falsehood, bare, tested, updated, grouped, under, between, joined, FormulasSyntax, no_formulas}
 use Rattle.spec_syntax.specs.Syntax.{more_formulas, SectionSyntax, Definition}
-use Rattle.named_formulas.specs.DefinitionView.{named_in}
+use Rattle.named_formulas.specs.declared.definitions.ReadDefinition.{ReadDefinition}
+use Rattle.named_formulas.specs.DefinitionView.{definition_of, named_in, AreHeads}
 use Rattle.named_formulas.specs.Expansion.{expanded}
 use Rattle.named_formulas.specs.Folds.{fold_term, fold_terms, fold, fold_members, node_counts}
 use Rattle.named_formulas.specs.SectionExpansion.{expanded_section, expanded_sections}
@@ -19,7 +21,13 @@ use Rattle.tsl_reader.specs.Naming.{term_uses, terms_uses, uses, members_uses, s
 use Rattle.tsl_reader.specs.Naming.{same_part, formulas_of_part}
 use Rattle.tsl_reader.specs.ReadText.{StandFor}
 use Rattle.tsl_reader.specs.Expanding.{replacing_in, bare_expansion, expanded_bare, nodes_of_expansion, nodes_of_formulas, nodes_of_sections}
-use Rattle.tsl_reader.proofs.NumberedFormulasAreTold.{uses_told, numbers_told}
+use Rattle.tsl_reader.proofs.NumberLemmas.{formulas_split}
+use Rattle.tsl_reader.proofs.UngroupedFormulas.{uses_told, numbers_told}
+
+-- there are as many defined names as definitions
+pub as_many : (heads : List Name) (ds : List ReadDefinition) → AreHeads heads ds → length heads ≡ length (map definition_of ds)
+as_many heads ds are =
+    sym (length-map heads (λ n. n.text)) ∙ ap length are ∙ length-map (map definition_of ds) (λ (d : Definition). d.name)
 
 -- ---- not more uses than nodes
 
@@ -118,17 +126,16 @@ module _ (ds : List Definition) where
       numbered_list names (formulas_of_part part (map (expanded_bare ds) ss))
       ≡ numbered_list names (formulas_of_part part (expanded_sections (replacing_in ds) ss))
   numbered_alike names part [] = refl
-  numbered_alike names part (s ∷ ss) = by (same_part part s.part) (numbered_alike names part ss) where
-    by : (b : Bool) →
-        numbered_list names (formulas_of_part part (map (expanded_bare ds) ss))
-        ≡ numbered_list names (formulas_of_part part (expanded_sections (replacing_in ds) ss)) →
-        numbered_list names (flat_map (λ s. s.formulas) (cond b (expanded_bare ds s ∷ filter (λ s. same_part part s.part) (map (expanded_bare ds) ss))
-        (filter (λ s. same_part part s.part) (map (expanded_bare ds) ss))))
-        ≡ numbered_list names (flat_map (λ s. s.formulas) (cond b
-        (expanded_section (replacing_in ds) s ∷ filter (λ s. same_part part s.part) (expanded_sections (replacing_in ds) ss))
-        (filter (λ s. same_part part s.part) (expanded_sections (replacing_in ds) ss))))
-    by true h = formulas_numbered names s.formulas _ _ h
-    by false h = h
+  numbered_alike names part (s ∷ ss) =
+      ap (numbered_list names) (formulas_split part (expanded_bare ds s) (map (expanded_bare ds) ss))
+      ∙ by (same_part part s.part) _ _ (numbered_alike names part ss)
+      ∙ ap (numbered_list names) (sym (formulas_split part (expanded_section (replacing_in ds) s) (expanded_sections (replacing_in ds) ss)))
+    where
+      by : (b : Bool) (left right : List FormulaSyntax) → numbered_list names left ≡ numbered_list names right →
+          numbered_list names ((if b then map (bare_expansion ds) s.formulas else []) ++ left)
+          ≡ numbered_list names ((if b then map whole s.formulas else []) ++ right)
+      by true left right h = formulas_numbered names s.formulas left right h
+      by false left right h = h
 
   pub bare_stand : (ss : List SectionSyntax) → StandFor (map (expanded_bare ds) ss) (expanded_sections (replacing_in ds) ss)
   bare_stand ss = record { uses = sections_use ss; numbers = λ names part. numbered_alike names part ss }

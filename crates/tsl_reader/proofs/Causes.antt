@@ -1,11 +1,8 @@
--- The faults of a text, by the tokens where they stand, and that each cause leaves no specification.
-use Rattle.std.proofs.Common.{◌≡◌, ℕ, zero, suc, ◌-◌, ◌<◌, ◌≤◌, List, [], ◌∷◌, ◌++◌, length, take, drop, refl, ap, sym, ◌∙◌, subst, inl}
-use Rattle.std.proofs.Common.{inr, arith}
-use Rattle.std.proofs.lemmas.List.{map-append, append-nil, length-map, length-drop}
-use Rattle.std.proofs.lemmas.Option.{slice_get_past}
-use Rattle.std.specs.Prelude.{Some, None, Ok, Err, slice_get}
-use Rattle.sequence.proofs.Options.{one_value}
-use Rattle.sequence.proofs.Places.{split_at}
+-- A text has one list of tokens, derives in one way, and spells one specification.
+use Rattle.std.proofs.Common.{◌≡◌, ℕ, ◌≤◌, List, ap, sym, ◌∙◌, subst}
+use Rattle.std.proofs.Common.{arith}
+use Rattle.std.specs.Prelude.{Some, Ok, Err}
+use Rattle.std.proofs.lemmas.Option.{same_Some}
 use Rattle.tsl_text.specs.declared.Token.{Token}
 use Rattle.tsl_text.specs.declared.TextError.{TextError}
 use Rattle.tsl_text.specs.Division.{AreTokens, IsAnswer}
@@ -18,13 +15,10 @@ use Rattle.spec_syntax.specs.declared.syntax.Part.{Part}
 use Rattle.spec_syntax.specs.declared.syntax.Part.TheVariants.{AssumeFirst, AssumeAlways, GuaranteeFirst, GuaranteeAlways}
 use Rattle.spec_syntax.specs.Syntax.{Terminal, SectionSyntax, Declaration}
 use Rattle.spec_syntax.specs.Grammar.{AreSections, AreDeclarations}
-use Rattle.token_readers.specs.Readers.{form, deep}
-use Rattle.spec_syntax.specs.Reading.{declarations}
 use Rattle.tsl_reader.specs.Naming.{names_of, numbered_list, formulas_of_part}
-use Rattle.spec_syntax.specs.Texts.{terminal_at, terminals}
-use Rattle.tsl_reader.specs.Spells.{deepest_level, most_formula_nodes, Derives, IsDerived, Spells, HasWrongToken}
-use Rattle.tsl_reader.specs.Spells.{HasFormFault}
-use Rattle.tsl_reader.specs.Spells.{HasDeepFault, HasTooManyNodes}
+use Rattle.spec_syntax.specs.Texts.{terminals}
+use Rattle.tsl_reader.specs.Spells.{deepest_level, most_formula_nodes, Derives, IsDerived, Spells}
+use Rattle.tsl_reader.specs.Spells.{HasTooManyNodes}
 use Rattle.spec_syntax.proofs.ExactSections.{one_tree}
 use Rattle.spec_syntax.proofs.DeclarationLaws as declared
 use Rattle.named_formulas.specs.DefinitionView.{named_in}
@@ -32,116 +26,6 @@ use Rattle.named_formulas.specs.TextExpansion.{Expands}
 use Rattle.named_formulas.specs.WellUsed.{as_written}
 use Rattle.named_formulas.proofs.OneExpansion.{one_expansion}
 use Rattle.declared_names.specs.Heads.{definitions_in}
-use Rattle.spec_syntax.proofs.ExactDeclarations.{declarations_exact}
-use Rattle.spec_syntax.proofs.FirstFaults as first
-
--- the terminals of tokens before and behind one
-terminals_split : (text : List ℕ) (before : List Token) (token : Token) (after : List Token) →
-    terminals text (before ++ token ∷ after) ≡ terminals text before ++ terminal_at text token ∷ terminals text after
-terminals_split text before token after = map-append (terminal_at text) before (token ∷ after)
-
-pub length_terminals : (text : List ℕ) (tokens : List Token) → length (terminals text tokens) ≡ length tokens
-length_terminals text tokens = length-map tokens (terminal_at text)
-
--- a fault at a token
-record Stop (text : List ℕ) (tokens : List Token) (left : ℕ) (token : Token) : Type 0 where
-  pub before : List Token
-  pub after : List Token
-  pub split : tokens ≡ before ++ token ∷ after
-  pub terminals_are : terminals text tokens ≡ terminals text before ++ terminal_at text token ∷ terminals text after
-  pub here : left ≡ suc (length (terminals text after))
-
-stop_at : (text : List ℕ) (tokens : List Token) (left : ℕ) (token : Token) → slice_get tokens (length tokens - left) ≡ Some token →
-    0 < left → left ≤ length tokens → Stop text tokens left token
-stop_at text tokens left token there some few =
-    let before = take (length tokens - left) tokens in
-    let after = drop (suc (length tokens - left)) tokens in
-    let split : tokens ≡ before ++ token ∷ after = split_at tokens (length tokens - left) token there in
-    record {
-      before = before;
-      after = after;
-      split = split;
-      terminals_are = ap (terminals text) split ∙ terminals_split text before token after;
-      here = omega (arith, some, few, length_terminals text after, length-drop (suc (length tokens - left)) tokens);
-    }
-
-wrong_token : (text : List ℕ) (tokens : List Token) → AreTokens text tokens → (left : ℕ) →
-    declarations deepest_level (terminals text tokens) ≡ Err (form left) →
-    (token : Token) → slice_get tokens (length tokens - left) ≡ Some token → 0 < left → HasWrongToken text token.start
-wrong_token text tokens are left h token there some =
-    let few : left ≤ length tokens = omega (
-      arith,
-      first.form_within (declarations_exact deepest_level) (terminals text tokens) left h,
-      length_terminals text tokens,
-    ) in
-    let s : Stop text tokens left token = stop_at text tokens left token there some few in
-    record {
-      before = s.before;
-      token = token;
-      after = s.after;
-      tokens_are = subst (AreTokens text) s.split are;
-      place = refl;
-      begins = first.form_begins (declarations_exact deepest_level) (terminals text tokens) left h (terminals text s.before)
-          (terminal_at text token ∷ terminals text s.after) s.terminals_are s.here;
-      stops = λ levels_left. rw (terminals_split text s.before token [])
-          (first.form_stops (declarations_exact deepest_level) (terminals text tokens) left h (terminals text s.before) (terminal_at text token)
-          (terminals text s.after) s.terminals_are s.here levels_left);
-    }
-
--- a form fault at a token
-pub form_at_token : (text : List ℕ) (tokens : List Token) → AreTokens text tokens → (left : ℕ) →
-    declarations deepest_level (terminals text tokens) ≡ Err (form left) →
-    (token : Token) → slice_get tokens (length tokens - left) ≡ Some token → HasFormFault text token.start
-form_at_token text tokens are zero h token there = no_token (slice_get_past tokens (length tokens - 0) (omega arith)) where
-  no_token : slice_get tokens (length tokens - 0) ≡ None → HasFormFault text token.start
-  no_token none = cc
-form_at_token text tokens are (suc left) h token there = inl (wrong_token text tokens are (suc left) h token there (omega arith))
-
--- a form fault at the end of the text
-pub form_at_end : (text : List ℕ) (tokens : List Token) → AreTokens text tokens → (left : ℕ) →
-    declarations deepest_level (terminals text tokens) ≡ Err (form left) → left ≡ 0 →
-    HasFormFault text (length text)
-form_at_end text tokens are left h none =
-    inr (record {
-      tokens = tokens;
-      tokens_are = are;
-      place = refl;
-      begins = first.form_begins (declarations_exact deepest_level) (terminals text tokens) left h (terminals text tokens) []
-          (sym (append-nil (terminals text tokens))) none;
-      no_text = λ levels_left. first.no_value (declarations_exact deepest_level) (terminals text tokens) left h levels_left;
-    })
-
--- a level too many, at a token
-pub deep_at_token : (text : List ℕ) (tokens : List Token) → AreTokens text tokens → (left : ℕ) →
-    declarations deepest_level (terminals text tokens) ≡ Err (deep left) →
-    (token : Token) → slice_get tokens (length tokens - left) ≡ Some token → HasDeepFault text token.start
-deep_at_token text tokens are left h token there =
-    let within = first.deep_within (declarations_exact deepest_level) (terminals text tokens) left h in
-    let few : left ≤ length tokens = omega (arith, within.1, length_terminals text tokens) in
-    let s : Stop text tokens left token = stop_at text tokens left token there within.0 few in
-    record {
-      before = s.before;
-      token = token;
-      after = s.after;
-      tokens_are = subst (AreTokens text) s.split are;
-      place = refl;
-      begins = first.deep_begins (declarations_exact deepest_level) (terminals text tokens) left h (terminals text s.before) (terminal_at text token)
-          (terminals text s.after) s.terminals_are s.here;
-      stops = rw (terminals_split text s.before token [])
-          (first.deep_stops (declarations_exact deepest_level) (terminals text tokens) left h (terminals text s.before) (terminal_at text token)
-          (terminals text s.after) s.terminals_are s.here);
-      levels_left = suc (suc deepest_level);
-      goes_on = rw (terminals_split text s.before token [])
-          (first.deep_goes_on (declarations_exact deepest_level) (terminals text tokens) left h (terminals text s.before) (terminal_at text token)
-          (terminals text s.after) s.terminals_are s.here);
-    }
-
--- a level too many has a token
-pub deep_has_token : (text : List ℕ) (tokens : List Token) (left : ℕ) → declarations deepest_level (terminals text tokens) ≡ Err (deep left) →
-    (0 < left) × (left ≤ length tokens)
-deep_has_token text tokens left h =
-    let within = first.deep_within (declarations_exact deepest_level) (terminals text tokens) left h in
-    (within.0, omega (arith, within.1, length_terminals text tokens))
 
 -- a text has one list of tokens
 pub one_list : (text : List ℕ) (a b : List Token) → AreTokens text a → AreTokens text b → a ≡ b
@@ -180,13 +64,10 @@ one_expanded ds es own other xs ys ss rs same alike h k s r =
 abbrev spec_from : List Name → List FormulaTree → List FormulaTree → List FormulaTree → List FormulaTree → SpecTree
 spec_from names a b c d = record { names = names; assume_first = a; assume_always = b; guarantee_first = c; guarantee_always = d }
 
-numbered_alike : (m n : List Name) (ss rs : List SectionSyntax) (part : Part) (x y : List FormulaTree) → m ≡ n → ss ≡ rs →
+numbered_alike : {m n : List Name} {ss rs : List SectionSyntax} {x y : List FormulaTree} (part : Part) → m ≡ n → ss ≡ rs →
     numbered_list m (formulas_of_part part ss) ≡ Some x → numbered_list n (formulas_of_part part rs) ≡ Some y → x ≡ y
-numbered_alike m n ss rs part x y names sections h k =
-    let same : numbered_list n (formulas_of_part part rs) ≡ Some x =
-    sym (ap (λ names. numbered_list names (formulas_of_part part ss)) names
-    ∙ ap (λ s. numbered_list n (formulas_of_part part s)) sections) ∙ h in
-    one_value (numbered_list n (formulas_of_part part rs)) x y same k
+numbered_alike {x = x} {y = y} part names sections h k =
+    same_Some x y (sym h ∙ (λ i. numbered_list (names i) (formulas_of_part part (sections i))) ∙ k)
 
 -- a text derives from one specification
 pub one_derived : (text : List ℕ) (a b : SpecTree) → IsDerived text a → IsDerived text b → a ≡ b
@@ -195,19 +76,10 @@ one_derived text a b x y =
     let sections : x.sections ≡ y.sections = one_expanded x.declarations y.declarations x.own y.own x.expanded y.expanded x.sections y.sections whole.0 whole.1
     x.expands y.expands x.sections_are y.sections_are in
     let names : a.names ≡ b.names = x.names ∙ ap names_of sections ∙ sym y.names in
-    let assume_first : a.assume_first ≡ b.assume_first =
-    numbered_alike a.names b.names x.sections y.sections AssumeFirst a.assume_first b.assume_first names sections x.assume_first
-    y.assume_first in
-    let assume_always : a.assume_always ≡ b.assume_always =
-    numbered_alike a.names b.names x.sections y.sections AssumeAlways a.assume_always b.assume_always names sections x.assume_always
-    y.assume_always in
-    let guarantee_first : a.guarantee_first ≡ b.guarantee_first =
-    numbered_alike a.names b.names x.sections y.sections GuaranteeFirst a.guarantee_first b.guarantee_first names sections
-    x.guarantee_first y.guarantee_first in
-    let guarantee_always : a.guarantee_always ≡ b.guarantee_always =
-    numbered_alike a.names b.names x.sections y.sections GuaranteeAlways a.guarantee_always b.guarantee_always names sections
-    x.guarantee_always y.guarantee_always in
-    λ i. spec_from (names i) (assume_first i) (assume_always i) (guarantee_first i) (guarantee_always i)
+    λ i. spec_from (names i) (numbered_alike AssumeFirst names sections x.assume_first y.assume_first i)
+    (numbered_alike AssumeAlways names sections x.assume_always y.assume_always i)
+    (numbered_alike GuaranteeFirst names sections x.guarantee_first y.guarantee_first i)
+    (numbered_alike GuaranteeAlways names sections x.guarantee_always y.guarantee_always i)
 
 -- a text spells one specification
 pub one_spec : (text : List ℕ) (a b : SpecTree) → Spells text a → Spells text b → a ≡ b

@@ -1,16 +1,14 @@
 -- A text has not more tokens than bytes, and not more names than tokens.
-use Rattle.std.proofs.Common.{◌≡◌, ℕ, ◌+◌, ◌≤◌, List, [], ◌∷◌, length, map, ap, arith, length-append}
-use Rattle.std.proofs.lemmas.List.{length-map}
+use Rattle.std.proofs.Common.{ℕ, ◌+◌, ◌≤◌, List, [], ◌∷◌, length, ap, arith, length-append}
 use Rattle.sequence.proofs.Passes.{filter_within}
 use Rattle.tsl_text.specs.declared.Token.{Token}
 use Rattle.tsl_text.specs.Division.{Part, blank, comment, lexeme, Divides, tokens_from, AreTokens}
-use Rattle.tsl_text.specs.Lexeme.{token_text}
 use Rattle.tsl_text.proofs.Pieces.{token_not_empty}
 use Rattle.spec_syntax.specs.Syntax.{Terminal, Declaration}
 use Rattle.declared_names.specs.WellDeclared.{names_in}
 use Rattle.spec_syntax.specs.Texts.{terminal_at}
-use Rattle.tsl_reader.specs.Spells.{is_free, name_tokens, Derives}
-use Rattle.tsl_reader.proofs.UsePlaces.{texts_of_names}
+use Rattle.tsl_reader.specs.Spells.{is_free, Derives}
+use Rattle.tsl_reader.proofs.NamePlaces.{as_many_names}
 
 parts_within : (text : List ℕ) (at : ℕ) (parts : List Part) → Divides text parts [] → length (tokens_from at parts) ≤ length text
 parts_within text at [] h = omega arith
@@ -26,13 +24,9 @@ tokens_within text tokens are = omega (arith, ap length are.places, parts_within
 pub names_in_text : (text : List ℕ) (tokens : List Token) (own : List Terminal) (ds : List Declaration) → Derives text tokens own ds →
     length (names_in ds) ≤ length text
 names_in_text text tokens own ds d =
-    let same : length (map (λ o. o.text) (names_in ds)) ≡ length (map (token_text text) (name_tokens text tokens)) =
-    ap length (texts_of_names text tokens own ds d) in
     omega (
       arith,
-      same,
-      length-map (names_in ds) (λ o. o.text),
-      length-map (name_tokens text tokens) (token_text text),
+      as_many_names text tokens own ds d,
       filter_within (λ t. is_free (terminal_at text t)) tokens,
       tokens_within text tokens d.tokens_are,
     )

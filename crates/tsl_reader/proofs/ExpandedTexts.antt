@@ -37,8 +37,8 @@ module _ (text : List ℕ) (tokens : List Token) (own : List Terminal) (ds : Lis
   -- the names that are used are names of the text
   pub usable : UsesAreUsable ss
   usable =
-      expanded_uses_are_usable ds deepest_level deepest_level (terminals text tokens) own xs ss e.well e.derives.derived e.expands
-      e.sections_are (names_are_usable text tokens e.derives.tokens_are)
+      expanded_uses_are_usable ds deepest_level xs ss e.well e.derives.derived e.expands e.sections_are
+      (names_are_usable text tokens e.derives.tokens_are)
 
   -- each of the four lists has its numbers, and fits the names
   pub list_good : (part : Part) → ListGood (names_of ss) (formulas_of_part part ss)

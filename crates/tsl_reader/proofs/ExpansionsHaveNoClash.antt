@@ -1,7 +1,7 @@
 -- What a text expands to uses no name in two ways, where the names of the text are well.
 use Rattle.std.proofs.Common.{◌≡◌, ℕ, Bool, true, false, List, refl, ap, sym, ◌∙◌, subst}
 use Rattle.std.specs.List.{AllByRecursion}
-use Rattle.std.proofs.lemmas.Bool.{eq-eqb}
+use Rattle.std.proofs.lemmas.Bool.{eq-eqb, true≢false}
 use Rattle.sequence.proofs.Each.{each_at}
 use Rattle.tsl_terms.specs.declared.names.NameKind.{NameKind}
 use Rattle.tsl_terms.specs.declared.names.NameKind.TheVariants.{Signal, Function, Predicate}
@@ -20,12 +20,10 @@ use Rattle.declared_names.proofs.Expanded.{expanded_names}
 use Rattle.tsl_reader.specs.Naming.{written_uses}
 use Rattle.tsl_reader.proofs.UsesStand.{Stands, names_stand}
 
-kind_itself : (a b : NameKind) → a ≡ b → same_kind a b ≡ true
-kind_itself a b e = subst (λ k. same_kind a k ≡ true) e (by a) where
-  by : (k : NameKind) → same_kind k k ≡ true
-  by Signal = refl
-  by Function = refl
-  by Predicate = refl
+kind_itself : (k : NameKind) → same_kind k k ≡ true
+kind_itself Signal = refl
+kind_itself Function = refl
+kind_itself Predicate = refl
 
 signal_is : (kind : NameKind) → same_kind kind Signal ≡ true → kind ≡ Signal
 signal_is Signal h = refl
@@ -55,24 +53,20 @@ module _ (ds : List Declaration) (well : AreNamedWell ds) where
         (ap (λ kind. same_kind kind Signal) (sym kinds) ∙ is)
         (subst (λ x. occurs_plain (names_in ds) x m.kind m.arity ≡ true) e h.0) k.0
 
-  no_kind_clash : (us : List Name) → AllByRecursion Such us → HasNoClash alike_in_kind us
-  no_kind_clash us such at c =
-      let same = kind_itself c.first.kind c.usage.kind (kinds_agree c.first c.usage c.same_name
-      (each_at Such us c.first_at c.first such c.first_there) (each_at Such us at c.usage such c.use_there)) in
-      let never : true ≡ false = sym same ∙ c.differs in
-      cc
-
-  no_arity_clash : (us : List Name) → AllByRecursion Such us → HasNoClash same_arity us
-  no_arity_clash us such at c =
-      let same = eq-eqb c.first.arity c.usage.arity (arities_agree c.first c.usage c.same_name
-      (each_at Such us c.first_at c.first such c.first_there) (each_at Such us at c.usage such c.use_there)) in
-      let never : true ≡ false = sym same ∙ c.differs in
-      cc
+  no_clash : (alike : Name → Name → Bool) → ((m n : Name) → m.text ≡ n.text → Such m → Such n → alike m n ≡ true) → (us : List Name) →
+      AllByRecursion Such us → HasNoClash alike us
+  no_clash alike agree us such at c =
+      let first = each_at Such us c.first_at c.first such c.first_there in
+      let usage = each_at Such us at c.usage such c.use_there in
+      absurd (true≢false (sym (agree c.first c.usage c.same_name first usage) ∙ c.differs))
 
 pub expansions_have_no_clash : (ds : List Declaration) (levels_left r : ℕ) (xs own ys : List Terminal) (rs : List SectionSyntax) →
     AreNamedWell ds → AreDeclarations levels_left xs own ds →
     Expands (as_written (named_in (definitions_in ds))) own ys → AreSections r ys rs →
     HasNoClash alike_in_kind (written_uses rs) × HasNoClash same_arity (written_uses rs)
 expansions_have_no_clash ds levels_left r xs own ys rs well derived to sections =
-    let such = names_stand (Passing (occurs_plain (names_in ds))) rs (expanded_names ds well derived r ys rs to sections) in
-    (no_kind_clash ds well (written_uses rs) such, no_arity_clash ds well (written_uses rs) such)
+    let such = names_stand (Passing (occurs_plain (names_in ds))) rs (expanded_names ds well derived r ys rs to sections) in (
+      no_clash ds well alike_in_kind (λ m n e h k. ap (same_kind m.kind) (sym (kinds_agree ds well m n e h k)) ∙ kind_itself m.kind)
+          (written_uses rs) such,
+      no_clash ds well same_arity (λ m n e h k. eq-eqb m.arity n.arity (arities_agree ds well m n e h k)) (written_uses rs) such,
+    )

@@ -1,72 +1,66 @@
 -- A specification has at most one name more than its text has bytes, whatever its definitions expand to.
-use Rattle.std.proofs.Common.{◌≡◌, ℕ, zero, suc, ◌+◌, ◌≤◌, Bool, true, false, cond, List, [], ◌∷◌, ◌++◌, map, length, refl, ap, sym, ◌∙◌, arith, length-append}
-use Rattle.std.specs.Prelude.{◌&&◌, ◌==◌, Option, Some, None, flat_map, slice_get, option_map}
-use Rattle.std.specs.List.{AllByRecursion}
+use Rattle.std.proofs.Common.{◌≡◌, ℕ, suc, ◌≤◌, Bool, true, false, cond, List, [], ◌∷◌, ◌++◌, map, length, refl, ap, sym, ◌∙◌, subst, arith}
+use Rattle.std.specs.Prelude.{Option, Some, None, flat_map, option_map}
+use Rattle.std.specs.Cmp.{IsEquivalence}
+use Rattle.std.specs.List.{AllByRecursion, IsDistinct, list_any}
 use Rattle.std.specs.Str.{bytes_eq}
-use Rattle.std.proofs.lemmas.Bool.{and_parts}
-use Rattle.std.proofs.lemmas.List.{length-map}
-use Rattle.std.proofs.lemmas.Option.{none-some, same_Some, slice_get-map}
+use Rattle.std.specs.Option.{is_some}
+use Rattle.std.proofs.lemmas.List.{length-map, map_push}
+use Rattle.std.proofs.lemmas.Option.{slice_get-map}
+use Rattle.std.proofs.lemmas.Map.Keys.{IsDistinct-push}
+use Rattle.std.proofs.lemmas.Map.Made.{length-le_from_is_member}
 use Rattle.sequence.proofs.Bytes.{same_bytes, bytes_same}
-use Rattle.sequence.proofs.Each.{each_weaker}
-use Rattle.sequence.proofs.Passes.{list_any_place}
-use Rattle.tsl_terms.specs.declared.names.NameKind.{NameKind}
-use Rattle.tsl_terms.specs.Name.{Name, number_of, question, same_kind}
+use Rattle.sequence.proofs.Each.{each_at, each_from_places, each_joined}
+use Rattle.sequence.proofs.Passes.{list_any_place, list_any_contained}
+use Rattle.sequence.proofs.Places.{contains_at}
+use Rattle.tsl_terms.specs.Name.{Name, number_of, question, texts}
 use Rattle.tsl_terms.specs.Clashes.{added_unless_found, with_use, with_uses, first_uses}
 use Rattle.tsl_terms.specs.SpecTree.{SpecTree}
-use Rattle.tsl_terms.proofs.FirstUses.{first_of, not_found}
-use Rattle.named_formulas.specs.Occurrences.{Passing}
-use Rattle.declared_names.specs.Occurrences.{Occurrence}
-use Rattle.declared_names.specs.Faults.{is_plain}
-use Rattle.declared_names.specs.WellDeclared.{occurs_plain, names_in}
-use Rattle.declared_names.proofs.Expanded.{expanded_names}
+use Rattle.named_formulas.proofs.FoundByNumber.{bytes_turned}
+use Rattle.declared_names.specs.WellDeclared.{names_in}
+use Rattle.declared_names.proofs.NameTests.{is_name_any}
 use Rattle.tsl_reader.specs.Naming.{Use, question_use, named_by, all_uses}
 use Rattle.tsl_reader.specs.Spells.{IsDerived, deepest_level}
 use Rattle.tsl_reader.proofs.Counts.{names_in_text}
-use Rattle.tsl_reader.proofs.NameBounds.{one, one_at_most, still_found, then_found}
-use Rattle.tsl_reader.proofs.UsesStand.{UseStands, uses_stand}
+use Rattle.tsl_reader.proofs.ExpansionsUseTheTextsNames.{Stands, used_texts}
 
--- how many of these texts are those of names
-abbrev count : List (List ℕ) → List Name → ℕ
-count [] names = 0
-count (z ∷ zs) names = one (first_of names z) + count zs names
+-- what holds of names holds where the names of uses are added to them, each once
+pub kept_by_uses : (Q : List Name → Type 0) (P : Name → Type 0) →
+    ((names : List Name) (u : Name) → number_of names u.text ≡ None → Q names → P u → Q (names ++ u ∷ [])) →
+    (us names : List Name) → Q names → AllByRecursion P us → Q (with_uses names us)
+kept_by_uses Q P more [] names holds each = holds
+kept_by_uses Q P more (u ∷ us) names holds each =
+    kept_by_uses Q P more us (with_use names u) (by (number_of names u.text) refl) each.1
+  where
+    by : (found : Option ℕ) → number_of names u.text ≡ found → Q (added_unless_found names u found)
+    by (Some number) is = holds
+    by None is = more names u is holds each.0
 
-count_within : (zs : List (List ℕ)) (names : List Name) → count zs names ≤ length zs
-count_within [] names = omega arith
-count_within (z ∷ zs) names = omega (arith, one_at_most (first_of names z), count_within zs names)
+texts_equal : IsEquivalence bytes_eq
+texts_equal = record {
+  refl = λ x. bytes_same x x refl;
+  symm = bytes_turned;
+  congr = λ x y z same. ap (λ w. bytes_eq w z) (same_bytes x y same);
+}
 
-count_grows : (zs : List (List ℕ)) (names : List Name) (added : Name) → count zs names ≤ count zs (names ++ added ∷ [])
-count_grows [] names added = omega arith
-count_grows (z ∷ zs) names added = omega (arith, still_found names added z, count_grows zs names added)
-
--- the text stands among these
-abbrev Stands : List (List ℕ) → List ℕ → Type 0
-Stands zs x = (k : ℕ) × (slice_get zs k ≡ Some x)
-
-count_more : (zs : List (List ℕ)) (k : ℕ) (names : List Name) (added : Name) → slice_get zs k ≡ Some added.text →
-    number_of names added.text ≡ None → suc (count zs names) ≤ count zs (names ++ added ∷ [])
-count_more [] k names added there none = absurd (none-some added.text there)
-count_more (z ∷ zs) zero names added there none =
-    let same : z ≡ added.text = same_Some z added.text there in
-    let before : one (first_of names z) ≡ 0 = ap (λ x. one (first_of names x)) same ∙ ap one (not_found names added.text none) in
-    omega (arith, before, then_found names added z (bytes_same z added.text same), count_grows zs names added)
-count_more (z ∷ zs) (suc k) names added there none =
-    omega (arith, still_found names added z, count_more zs k names added there none)
-
-added_few : (zs : List (List ℕ)) (names : List Name) (u : Name) (found : Option ℕ) → number_of names u.text ≡ found → Stands zs u.text →
-    length names ≤ count zs names → length (added_unless_found names u found) ≤ count zs (added_unless_found names u found)
-added_few zs names u (Some n) is stands few = few
-added_few zs names u None is stands few =
-    omega (arith, few, count_more zs stands.0 names u stands.1 is, length-append names (u ∷ []))
-
-added_all : (zs : List (List ℕ)) (us names : List Name) → AllByRecursion (λ n. Stands zs n.text) us → length names ≤ count zs names →
-    length (with_uses names us) ≤ count zs (with_uses names us)
-added_all zs [] names stand few = few
-added_all zs (u ∷ us) names stand few =
-    added_all zs us (with_use names u) stand.1 (added_few zs names u (number_of names u.text) refl stand.0 few)
+-- texts of which each stands among these, and none twice
+abbrev AreSome : List (List ℕ) → List (List ℕ) → Type 0
+AreSome zs xs = IsDistinct bytes_eq xs × AllByRecursion (Stands zs) xs
 
 -- names with these texts alone are not more than these
-firsts_are_few : (zs : List (List ℕ)) (us : List Name) → AllByRecursion (λ n. Stands zs n.text) us → length (first_uses us) ≤ length zs
-firsts_are_few zs us stand = omega (arith, added_all zs us [] stand (omega arith), count_within zs (first_uses us))
+firsts_are_few : (zs : List (List ℕ)) (us : List Name) → AllByRecursion (λ u. Stands zs u.text) us → length (first_uses us) ≤ length zs
+unfolding IsDistinct
+firsts_are_few zs us stand =
+    let some = kept_by_uses (λ names. AreSome zs (texts names)) (λ u. Stands zs u.text) (λ names u none h stands.
+    subst (AreSome zs) (sym (map_push (λ n. n.text) names u)) (
+      IsDistinct-push texts_equal (texts names) u.text h.0 (sym (is_name_any names u.text) ∙ ap is_some none),
+      each_joined (Stands zs) (texts names) (u.text ∷ []) h.1 (stands, tt),
+    )) us [] (tt, tt) stand in
+    let member : (q : List ℕ) → list_any (bytes_eq q) (texts (first_uses us)) ≡ true → list_any (bytes_eq q) zs ≡ true = λ q there.
+    let found = list_any_place (bytes_eq q) (texts (first_uses us)) there in
+    let at = each_at (Stands zs) (texts (first_uses us)) found.0 found.1 some.1 found.2 in
+    list_any_contained (bytes_eq q) zs found.1 (contains_at zs at.0 found.1 at.1) found.3 in
+    omega (arith, length-le_from_is_member texts_equal (texts (first_uses us)) zs some.0 member, length-map (first_uses us) (λ n. n.text))
 
 each_named : (zs : List (List ℕ)) (us : List Use) → AllByRecursion (λ (u : Use). Stands zs u.name.text) us →
     AllByRecursion (λ (n : Name). Stands (question ∷ zs) n.text) (flat_map named_by us)
@@ -77,25 +71,21 @@ each_named zs (u ∷ us) stand = ((suc stand.0.0, stand.0.1), by u.is_tested (ea
   by true rest = ((0, refl), rest)
   by false rest = rest
 
-occurring : (all : List Occurrence) (x : List ℕ) (kind : NameKind) (arity : ℕ) → occurs_plain all x kind arity ≡ true →
-    Stands (map (λ (o : Occurrence). o.text) all) x
-occurring all x kind arity h =
-    let found = list_any_place (λ o. is_plain o.role && (bytes_eq x o.text && (same_kind kind o.kind && (arity == o.arity)))) all h in
-    let o : Occurrence = found.1 in
-    let plain = and_parts (is_plain o.role) (bytes_eq x o.text && (same_kind kind o.kind && (arity == o.arity))) found.3 in
-    let text = and_parts (bytes_eq x o.text) (same_kind kind o.kind && (arity == o.arity)) plain.1 in (
-      found.0,
-      slice_get-map (λ (p : Occurrence). p.text) all found.0 ∙ ap (option_map (λ (p : Occurrence). p.text)) found.2
-          ∙ ap Some (sym (same_bytes x o.text text.0)),
-    )
+-- and so those that get numbers by uses of these texts, but for `?`
+named_few : (zs : List (List ℕ)) (us : List Use) → AllByRecursion (λ u. Stands zs u.name.text) us →
+    length (first_uses (flat_map named_by us)) ≤ suc (length zs)
+named_few zs us stand = firsts_are_few (question ∷ zs) (flat_map named_by us) (each_named zs us stand)
+
+-- there are not more names than uses, and one more for the test of a Boolean signal
+pub names_within : (us : List Use) → length (first_uses (flat_map named_by us)) ≤ suc (length us)
+names_within us =
+    let own = each_from_places (λ u. Stands (map (λ v. v.name.text) us) u.name.text) us (λ i u at.
+    (i, slice_get-map (λ v. v.name.text) us i ∙ ap (option_map (λ v. v.name.text)) at)) in
+    omega (arith, named_few (map (λ v. v.name.text) us) us own, length-map us (λ v. v.name.text))
 
 pub few_names : (text : List ℕ) (spec : SpecTree) → IsDerived text spec → length spec.names ≤ suc (length text)
 few_names text spec d =
     let all = names_in d.declarations in
-    let stand = uses_stand (Passing (occurs_plain all)) d.sections
-    (expanded_names d.declarations d.named_well d.derives.derived deepest_level d.expanded d.sections d.expands d.sections_are) in
-    let few = firsts_are_few (question ∷ map (λ (o : Occurrence). o.text) all) (flat_map named_by (all_uses d.sections))
-    (each_named (map (λ (o : Occurrence). o.text) all) (all_uses d.sections)
-    (each_weaker (UseStands (Passing (occurs_plain all))) (λ (u : Use). Stands (map (λ (o : Occurrence). o.text) all) u.name.text)
-    (λ u stands. occurring all u.name.text u.name.kind u.name.arity stands.0) (all_uses d.sections) stand)) in
+    let few = named_few (map (λ o. o.text) all) (all_uses d.sections)
+    (used_texts d.declarations deepest_level d.expanded d.sections d.named_well d.derives.derived d.expands d.sections_are) in
     omega (arith, ap length d.names, few, length-map all (λ o. o.text), names_in_text text d.tokens d.own d.declarations d.derives)

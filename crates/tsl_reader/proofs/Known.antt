@@ -1,10 +1,13 @@
 -- The names of a specification know each use: its number names what it is used as.
-use Rattle.std.proofs.Common.{◌≡◌, ℕ, ◌==◌, Bool, true, false, List, [], ◌∷◌, ◌++◌, refl, ap, sym, ◌∙◌, inl, inr, ⊎_elim}
-use Rattle.std.specs.Prelude.{Option, Some, None, zero, suc, cond, slice_get, flat_map, option_and_then, IsTrue, ◌⊎◌}
+use Rattle.std.proofs.Common.{◌≡◌, ℕ, ◌==◌, Bool, true, false, List, [], ◌∷◌, ◌++◌, refl, ap, sym, ◌∙◌, inl, inr, ⊎_elim, arith}
+use Rattle.std.proofs.lemmas.Grind.{common_steps}
+use Rattle.std.specs.Prelude.{Some, zero, suc, cond, slice_get, flat_map, option_and_then, IsTrue, ◌⊎◌}
 use Rattle.std.specs.List.{AllByRecursion}
 use Rattle.std.specs.Str.{bytes_eq}
 use Rattle.sequence.proofs.Bytes.{same_bytes}
 use Rattle.sequence.proofs.Each.{each_at}
+use Rattle.sequence.proofs.Options.{there_before}
+use Rattle.std.specs.Option.{is_some}
 use Rattle.tsl_text.specs.Names.{is_usable}
 use Rattle.tsl_terms.specs.Name.{Name, number_of, same_kind, question}
 use Rattle.tsl_terms.specs.Clashes.{alike_in_kind, same_arity, HasNoClash}
@@ -27,10 +30,10 @@ pub record Known (names : List Name) (u : Name) : Type 0 where
 
 known_of : (names : List Name) (u f : Name) → name_with names u.text ≡ Some f → f.text ≡ u.text → alike_in_kind f u ≡ true →
     same_arity f u ≡ true → Known names u
-known_of names u f found text kind arity = by (number_of names u.text) refl found where
-  by : (number : Option ℕ) → number_of names u.text ≡ number → option_and_then (slice_get names) number ≡ Some f → Known names u
-  by None e g = cc
-  by (Some k) e g = record { number = k; entry = f; numbered = e; there = g; text = text; kind = kind; arity = arity }
+known_of names u f found text kind arity =
+    let k = there_before (slice_get names) (number_of names u.text) (ap is_some found) in
+    let there = sym (ap (option_and_then (slice_get names)) k.1) ∙ found in
+    record { number = k.0; entry = f; numbered = k.1; there = there; text = text; kind = kind; arity = arity }
 
 -- a name that gets a number is usable, or `?` as a test
 abbrev pub MayBeNamed : Name → Type 0
@@ -51,10 +54,9 @@ question_unusable text h e =
     cc
 
 usable_is_other : (text : List ℕ) → IsUsable text → bytes_eq text question ≡ false
-usable_is_other text h = by (bytes_eq text question) refl where
-  by : (is : Bool) → bytes_eq text question ≡ is → is ≡ false
-  by true e = absurd (question_unusable text h (same_bytes text question e))
-  by false e = refl
+usable_is_other text h =
+    let never = question_unusable text h in
+    grind (arith, common_steps, same_bytes text question)
 
 -- the first use of a name is like each use
 pub like_first : (alike : Name → Name → Bool) (us : List Name) → HasNoClash alike us → (at : ℕ) (u f : Name) → slice_get us at ≡ Some u →

@@ -1,17 +1,18 @@
 -- A table of sizes has a table of levels, and by it those uses are too deep that are by the levels themselves: that a table counts
 -- levels up to a bound alone tells no other.
-use Rattle.std.proofs.Common.{◌≡◌, ℕ, ◌+◌, ◌<◌, Bool, true, false, min, List, map, refl, ap, ◌∙◌, arith}
-use Rattle.std.specs.Prelude.{◌&&◌, Option, Some, None, option_map, option_and_then, slice_get, position, nat_lt}
-use Rattle.std.proofs.lemmas.Bool.{ltb-true, ltb-false}
+use Rattle.std.proofs.Common.{◌≡◌, ℕ, min, List, map, ap, ◌∙◌, arith}
+use Rattle.std.proofs.lemmas.Grind.{common_steps}
+use Rattle.std.proofs.lemmas.Bool.Decides.{nat_tests}
+use Rattle.std.specs.Prelude.{◌&&◌, Option, option_map, position}
 use Rattle.std.proofs.lemmas.Option.{slice_get-map}
-use Rattle.tsl_terms.specs.Name.{Name, number_of}
+use Rattle.tsl_terms.specs.Name.{Name}
 use Rattle.spec_syntax.specs.Syntax.{Definition}
 use Rattle.named_formulas.specs.declared.sizing.Size.{Size}
 use Rattle.named_formulas.specs.declared.sizing.TheConstants.{LEVELS_STOP}
 use Rattle.named_formulas.specs.Folds.{depths}
 use Rattle.named_formulas.specs.ExpansionSizes.{number_in, AreSizes}
 use Rattle.declared_names.specs.Occurrences.{Occurrence}
-use Rattle.declared_names.specs.Faults.{is_used, deepest_level, passes_deepest, is_deep_use}
+use Rattle.declared_names.specs.Faults.{is_used, passes_deepest, is_deep_use}
 use Rattle.declared_names.specs.WellDeclared.{AreLevels, is_use_too_deep}
 
 -- the levels of sizes
@@ -20,26 +21,11 @@ levels_of sizes = map (λ s. s.levels) sizes
 
 pub levels_are : (heads : List Name) (ds : List Definition) (sizes : List Size) → AreSizes heads ds sizes →
     AreLevels heads (levels_of sizes) ds
-levels_are heads ds sizes are x = by (number_of heads x) ∙ are.levels x where
-  by : (number : Option ℕ) → option_and_then (slice_get (levels_of sizes)) number
-      ≡ option_map (λ s. s.levels) (option_and_then (slice_get sizes) number)
-  by None = refl
-  by (Some n) = slice_get-map (λ s. s.levels) sizes n
-
--- two numbers that pass a third one at once
-same_test : (most m n : ℕ) → (most < m → most < n) → (most < n → most < m) → nat_lt most m ≡ nat_lt most n
-same_test most m n there back = by (nat_lt most m) (nat_lt most n) refl refl where
-  by : (a b : Bool) → nat_lt most m ≡ a → nat_lt most n ≡ b → a ≡ b
-  by true true h k = refl
-  by false false h k = refl
-  by true false h k = absurd (omega (arith, there (ltb-true most m h), ltb-false most n k))
-  by false true h k = absurd (omega (arith, back (ltb-true most n k), ltb-false most m h))
+levels_are heads ds sizes are x = grind (arith, common_steps, are.levels x, slice_get-map)
 
 stopped_passes : (level : ℕ) (found : Option ℕ) →
     passes_deepest level (option_map (min LEVELS_STOP) found) ≡ passes_deepest level found
-stopped_passes level None = refl
-stopped_passes level (Some n) =
-    same_test deepest_level (level + min LEVELS_STOP n) (level + n) (λ h. omega (arith, h)) (λ h. omega (arith, h))
+stopped_passes level found = grind (arith, common_steps, nat_tests)
 
 module _ (heads : List Name) (levels : List ℕ) (ds : List Definition) (are : AreLevels heads levels ds) where
   pub is_deep_by_levels : (o : Occurrence) → is_deep_use heads levels o ≡ is_use_too_deep ds o

@@ -1,5 +1,7 @@
 mod Examples
 pub mod Causes
+pub mod FormFaults
+pub mod CausesInOrder
 pub mod OneCause
 pub mod SpelledFits
 pub mod UsePlaces
@@ -8,7 +10,6 @@ pub mod Shapes
 pub mod Usable
 pub mod Known
 pub mod Fits
-pub mod NameBounds
 pub mod NumberLemmas
 pub mod Results
 pub mod StageLemmas
@@ -28,8 +29,7 @@ pub mod PartsAreGood
 pub mod UsesStand
 pub mod ExpansionsUseTheTextsNames
 pub mod ExpansionsHaveNoClash
-pub mod NumberedFormulasAreTold
+pub mod UngroupedFormulas
 pub mod LevelsOfSizes
 pub mod ManyNodesAreTold
 pub mod FewNames
-pub mod ExpansionLoops

@@ -1,9 +1,11 @@
 -- The whole formula of a specification has at least the nodes of its formulas. So where the sections of a text expand to formulas
 -- that have too many, which is told without making them, so has the whole formula.
-use Rattle.std.proofs.Common.{◌≡◌, ℕ, ◌+◌, ◌<◌, ◌≤◌, min, cond, List, [], ◌∷◌, ◌++◌, length, map, refl, ap, sym, ◌∙◌, subst, arith}
-use Rattle.std.specs.Prelude.{Some, filter, flat_map}
-use Rattle.std.specs.List.{sum_by}
-use Rattle.std.proofs.lemmas.List.Sums.{sum_by-cons, sum_by-append}
+use Rattle.std.proofs.Common.{◌≡◌, ℕ, ◌+◌, ◌<◌, ◌≤◌, min, List, [], ◌∷◌, ◌++◌, length, map, refl, ap, sym, ◌∙◌, arith}
+use Rattle.std.specs.Prelude.{flat_map}
+use Rattle.std.specs.List.{sum, sum_by}
+use Rattle.std.proofs.lemmas.List.{map-append}
+use Rattle.std.proofs.lemmas.List.Sums.{sum_by-cons, sum_by-append, sum-map}
+use Rattle.sequence.proofs.Lists.{map_map, map_agree}
 use Rattle.tsl_terms.specs.declared.operator.UnaryOperator.TheVariants.{Globally}
 use Rattle.tsl_terms.specs.Name.{Name}
 use Rattle.tsl_terms.specs.FormulaTree.{FormulaTree, unary, formulas_of}
@@ -13,13 +15,15 @@ use Rattle.spec_syntax.specs.declared.syntax.Part.{Part}
 use Rattle.spec_syntax.specs.declared.syntax.Part.TheVariants.{AssumeFirst, AssumeAlways, GuaranteeFirst, GuaranteeAlways}
 use Rattle.spec_syntax.specs.Syntax.{FormulaSyntax, SectionSyntax, Definition}
 use Rattle.named_formulas.specs.DefinitionView.{named_in}
-use Rattle.named_formulas.specs.Expansion.{expanded, expansion_within}
+use Rattle.named_formulas.specs.Expansion.{expanded}
 use Rattle.named_formulas.specs.SectionExpansion.{expanded_sections}
-use Rattle.named_formulas.specs.Folds.{fold, fold_by, node_counts}
-use Rattle.named_formulas.specs.ExpansionSizes.{number_in}
+use Rattle.named_formulas.specs.Folds.{fold, node_counts}
 use Rattle.named_formulas.proofs.FoldLaws.{number_of_expansion}
-use Rattle.tsl_reader.specs.Naming.{numbered_formula, numbered_list, same_part, formulas_of_part}
-use Rattle.tsl_reader.proofs.NumberedFormulasAreTold.{Counts, counts_two, formula_counts}
+use Rattle.tsl_reader.specs.Naming.{formulas_of_part}
+use Rattle.tsl_reader.specs.Numbering.{formulas_if}
+use Rattle.tsl_reader.specs.Expanding.{replacing_in, nodes_of_expansion, nodes_of_sections}
+use Rattle.tsl_reader.proofs.Fits.{ListGood}
+use Rattle.tsl_reader.proofs.NumberLemmas.{formulas_split}
 
 -- ---- the whole formula
 
@@ -59,105 +63,78 @@ whole_has spec = omega (
 
 -- ---- the formulas of sections
 
-list_counts : (names : List Name) (fs : List FormulaSyntax) →
-    Counts (sum_by nodes) (sum_by (fold node_counts) fs) (numbered_list names fs)
-list_counts names [] = refl
-list_counts names (f ∷ fs) =
-    subst (λ n. Counts (sum_by nodes) n (numbered_list names (f ∷ fs))) (sym (sum_by-cons (fold node_counts) f fs))
-    (counts_two nodes (sum_by nodes) (sum_by nodes) (λ tree trees. tree ∷ trees) (λ m n. m + n)
-    (λ tree trees. sum_by-cons nodes tree trees)
-    (numbered_formula names f) (numbered_list names fs) (fold node_counts f) (sum_by (fold node_counts) fs) (formula_counts names f)
-    (list_counts names fs))
-
-list_told : (names : List Name) (fs : List FormulaSyntax) (trees : List FormulaTree) → numbered_list names fs ≡ Some trees →
-    sum_by nodes trees ≡ sum_by (fold node_counts) fs
-list_told names fs trees is = subst (Counts (sum_by nodes) (sum_by (fold node_counts) fs)) is (list_counts names fs)
-
 module _ (W : FormulaSyntax → ℕ) where
   abbrev of_part : Part → List SectionSyntax → ℕ
   of_part part ss = sum_by W (formulas_of_part part ss)
 
-  -- those of one list, where a section of this part stands in front
-  abbrev of_front : Part → Part → SectionSyntax → List SectionSyntax → ℕ
-  of_front p q s ss =
-      sum_by W (flat_map (λ r. r.formulas) (cond (same_part p q) (s ∷ filter (λ r. same_part p r.part) ss)
-      (filter (λ r. same_part p r.part) ss)))
-
   -- each section goes to one of the four lists
+  one_part : (fs : List FormulaSyntax) (q : Part) → (s : SectionSyntax) → s ≡ record { part = q; formulas = fs } →
+      (sum_by W (formulas_if AssumeFirst s) + sum_by W (formulas_if AssumeAlways s))
+      + (sum_by W (formulas_if GuaranteeFirst s) + sum_by W (formulas_if GuaranteeAlways s)) ≡ sum_by W fs
+  one_part fs AssumeFirst s is = rw is (omega arith)
+  one_part fs AssumeAlways s is = rw is (omega arith)
+  one_part fs GuaranteeFirst s is = rw is (omega arith)
+  one_part fs GuaranteeAlways s is = rw is (omega arith)
+
   pub parts_are_all : (ss : List SectionSyntax) → sum_by W (flat_map (λ s. s.formulas) ss)
       ≡ (of_part AssumeFirst ss + of_part AssumeAlways ss) + (of_part GuaranteeFirst ss + of_part GuaranteeAlways ss)
   parts_are_all [] = refl
   parts_are_all (s ∷ ss) =
-      by (sum_by-append W s.formulas (flat_map (λ r. r.formulas) ss) ∙ ap (λ n. sum_by W s.formulas + n) (parts_are_all ss)) s.part
-    where
-      more : (p : Part) → sum_by W (flat_map (λ r. r.formulas) (s ∷ filter (λ r. same_part p r.part) ss))
-          ≡ sum_by W s.formulas + of_part p ss
-      more p = sum_by-append W s.formulas (formulas_of_part p ss)
+      let next : (p : Part) → of_part p (s ∷ ss) ≡ sum_by W (formulas_if p s) + of_part p ss = λ p.
+      ap (sum_by W) (formulas_split p s ss) ∙ sum_by-append W (formulas_if p s) (formulas_of_part p ss) in
+      omega (
+        arith,
+        sum_by-append W s.formulas (flat_map (λ r. r.formulas) ss),
+        parts_are_all ss,
+        one_part s.formulas s.part s refl,
+        next AssumeFirst,
+        next AssumeAlways,
+        next GuaranteeFirst,
+        next GuaranteeAlways,
+      )
 
-      by : sum_by W (flat_map (λ r. r.formulas) (s ∷ ss)) ≡ sum_by W s.formulas
-          + ((of_part AssumeFirst ss + of_part AssumeAlways ss) + (of_part GuaranteeFirst ss + of_part GuaranteeAlways ss)) →
-          (q : Part) → sum_by W (flat_map (λ r. r.formulas) (s ∷ ss))
-          ≡ (of_front AssumeFirst q s ss + of_front AssumeAlways q s ss)
-          + (of_front GuaranteeFirst q s ss + of_front GuaranteeAlways q s ss)
-      by all AssumeFirst = omega (arith, all, more AssumeFirst)
-      by all AssumeAlways = omega (arith, all, more AssumeAlways)
-      by all GuaranteeFirst = omega (arith, all, more GuaranteeFirst)
-      by all GuaranteeAlways = omega (arith, all, more GuaranteeAlways)
+-- the nodes of what the formulas of sections expand to are told without making it
+module _ (ds : List Definition) where
+  abbrev whole : FormulaSyntax → FormulaSyntax
+  whole a = expanded (replacing_in ds) (λ x. x) a
 
--- ---- expansions
+  all_whole : (ss : List SectionSyntax) →
+      flat_map (λ s. s.formulas) (expanded_sections (replacing_in ds) ss) ≡ map whole (flat_map (λ s. s.formulas) ss)
+  all_whole [] = refl
+  all_whole (s ∷ ss) =
+      ap (λ fs. map whole s.formulas ++ fs) (all_whole ss) ∙ sym (map-append whole s.formulas (flat_map (λ r. r.formulas) ss))
 
--- the nodes of what the formulas of sections expand to, told without making it
-abbrev pub nodes_of_expansions : List Definition → List SectionSyntax → ℕ
-nodes_of_expansions ds ss = sum_by (fold_by node_counts (number_in node_counts ds)) (flat_map (λ s. s.formulas) ss)
+  sections_told : (ss : List SectionSyntax) →
+      sum_by (fold node_counts) (flat_map (λ s. s.formulas) (expanded_sections (replacing_in ds) ss)) ≡ nodes_of_sections ds ss
+  sections_told ss =
+      let fs = flat_map (λ s. s.formulas) ss in
+      ap (sum_by (fold node_counts)) (all_whole ss) ∙ sym (sum-map (fold node_counts) (map whole fs))
+      ∙ ap sum (map_map (fold node_counts) whole fs
+      ∙ map_agree _ (nodes_of_expansion ds) (number_of_expansion node_counts (named_in ds) (length ds) (λ x. x)) fs)
+      ∙ sum-map (nodes_of_expansion ds) fs
 
--- what sections expand to
-abbrev pub expansions : List Definition → List SectionSyntax → List SectionSyntax
-expansions ds ss = expanded_sections (expansion_within (named_in ds) (length ds)) ss
-
-formulas_told : (ds : List Definition) (fs : List FormulaSyntax) →
-    sum_by (fold node_counts) (map (expanded (expansion_within (named_in ds) (length ds)) (λ x. x)) fs)
-    ≡ sum_by (fold_by node_counts (number_in node_counts ds)) fs
-formulas_told ds [] = refl
-formulas_told ds (f ∷ fs) =
-    let whole = expanded (expansion_within (named_in ds) (length ds)) (λ x. x) in
-    sum_by-cons (fold node_counts) (whole f) (map whole fs)
-    ∙ (λ i. number_of_expansion node_counts (named_in ds) (length ds) (λ x. x) f i + formulas_told ds fs i)
-    ∙ sym (sum_by-cons (fold_by node_counts (number_in node_counts ds)) f fs)
-
-sections_told : (ds : List Definition) (ss : List SectionSyntax) →
-    sum_by (fold node_counts) (flat_map (λ s. s.formulas) (expansions ds ss)) ≡ nodes_of_expansions ds ss
-sections_told ds [] = refl
-sections_told ds (s ∷ ss) =
-    let whole = expanded (expansion_within (named_in ds) (length ds)) (λ x. x) in
-    sum_by-append (fold node_counts) (map whole s.formulas) (flat_map (λ r. r.formulas) (expansions ds ss))
-    ∙ (λ i. formulas_told ds s.formulas i + sections_told ds ss i)
-    ∙ sym (sum_by-append (fold_by node_counts (number_in node_counts ds)) s.formulas (flat_map (λ r. r.formulas) ss))
-
--- the four lists of a specification are the formulas of these sections, with numbers
-pub record AreLists (names : List Name) (rs : List SectionSyntax) (spec : SpecTree) : Type 0 where
-  pub assume_first : numbered_list names (formulas_of_part AssumeFirst rs) ≡ Some spec.assume_first
-  pub assume_always : numbered_list names (formulas_of_part AssumeAlways rs) ≡ Some spec.assume_always
-  pub guarantee_first : numbered_list names (formulas_of_part GuaranteeFirst rs) ≡ Some spec.guarantee_first
-  pub guarantee_always : numbered_list names (formulas_of_part GuaranteeAlways rs) ≡ Some spec.guarantee_always
-
--- a specification of sections has at least the nodes of their formulas
-pub sections_count : (names : List Name) (rs : List SectionSyntax) (spec : SpecTree) → AreLists names rs spec →
-    sum_by (fold node_counts) (flat_map (λ s. s.formulas) rs) ≤ nodes (whole_formula spec)
-sections_count names rs spec are = omega (
-  arith,
-  parts_are_all (fold node_counts) rs,
-  list_told names (formulas_of_part AssumeFirst rs) spec.assume_first are.assume_first,
-  list_told names (formulas_of_part AssumeAlways rs) spec.assume_always are.assume_always,
-  list_told names (formulas_of_part GuaranteeFirst rs) spec.guarantee_first are.guarantee_first,
-  list_told names (formulas_of_part GuaranteeAlways rs) spec.guarantee_always are.guarantee_always,
-  whole_has spec,
-)
-
-pub expansions_count : (names : List Name) (ds : List Definition) (ss : List SectionSyntax) (spec : SpecTree) →
-    AreLists names (expansions ds ss) spec → nodes_of_expansions ds ss ≤ nodes (whole_formula spec)
-expansions_count names ds ss spec are = omega (arith, sections_told ds ss, sections_count names (expansions ds ss) spec are)
+-- the specification of sections whose formulas get their numbers
+abbrev pub spec_of : (names : List Name) (rs : List SectionSyntax) → ((part : Part) → ListGood names (formulas_of_part part rs)) → SpecTree
+spec_of names rs good = record {
+  names = names;
+  assume_first = (good AssumeFirst).trees;
+  assume_always = (good AssumeAlways).trees;
+  guarantee_first = (good GuaranteeFirst).trees;
+  guarantee_always = (good GuaranteeAlways).trees;
+}
 
 -- where the nodes of what sections expand to, counted up to a bound, are more than a number, so are those of the whole formula
-pub many_nodes_are_told : (stop most : ℕ) (names : List Name) (ds : List Definition) (ss : List SectionSyntax) (spec : SpecTree) →
-    AreLists names (expansions ds ss) spec → most < min stop (nodes_of_expansions ds ss) → most < nodes (whole_formula spec)
-many_nodes_are_told stop most names ds ss spec are many = omega (arith, many, expansions_count names ds ss spec are)
+pub many_nodes_are_told : (stop most : ℕ) (names : List Name) (ds : List Definition) (ss : List SectionSyntax)
+    (good : (part : Part) → ListGood names (formulas_of_part part (expanded_sections (replacing_in ds) ss))) →
+    most < min stop (nodes_of_sections ds ss) → most < nodes (whole_formula (spec_of names (expanded_sections (replacing_in ds) ss) good))
+many_nodes_are_told stop most names ds ss good many = omega (
+  arith,
+  many,
+  sections_told ds ss,
+  parts_are_all (fold node_counts) (expanded_sections (replacing_in ds) ss),
+  (good AssumeFirst).nodes_are,
+  (good AssumeAlways).nodes_are,
+  (good GuaranteeFirst).nodes_are,
+  (good GuaranteeAlways).nodes_are,
+  whole_has (spec_of names (expanded_sections (replacing_in ds) ss) good),
+)

@@ -1,60 +1,49 @@
 -- The first name of a text that is such, and its token.
-use Rattle.std.proofs.Common.{◌≡◌, ℕ, ◌+◌, ◌<◌, Bool, true, false, cond, not, List, [], ◌∷◌, length, refl, sym, ◌∙◌, arith}
-use Rattle.std.specs.Prelude.{◌&&◌, Option, Some, None, option_and_then, position, slice_get, nat_lt}
-use Rattle.std.specs.List.{list_all, position_from, position_or_len}
-use Rattle.std.proofs.lemmas.Bool.{ltb-true}
+use Rattle.std.proofs.Common.{◌≡◌, ℕ, ◌<◌, Bool, true, false, not, List, [], ◌∷◌, length, refl, ap, ◌∙◌, arith}
+use Rattle.std.specs.Prelude.{Some, None, position, slice_get}
+use Rattle.std.specs.List.{list_all, list_any}
+use Rattle.std.specs.Option.{is_some}
+use Rattle.std.proofs.lemmas.Bool.Decides.{nat_tests}
+use Rattle.std.proofs.lemmas.Grind.{common_steps}
 use Rattle.std.proofs.lemmas.Iterator.Adapters.{position_from-zero}
-use Rattle.sequence.proofs.Options.{found_place, no_place}
+use Rattle.std.proofs.lemmas.List.{length-map}
+use Rattle.sequence.proofs.Options.{none_is}
 use Rattle.sequence.proofs.Places.{slice_get_some}
 use Rattle.tsl_text.specs.declared.Token.{Token}
+use Rattle.tsl_text.specs.Lexeme.{token_text}
 use Rattle.spec_syntax.specs.Syntax.{Terminal, Declaration}
 use Rattle.declared_names.specs.Occurrences.{Occurrence}
 use Rattle.declared_names.specs.WellDeclared.{names_in}
-use Rattle.tsl_reader.specs.Spells.{Derives, name_tokens, IsFirstName}
-use Rattle.tsl_reader.proofs.UsePlaces.{texts_of_names, token_of_name}
+use Rattle.declared_names.proofs.NameTests.{any_from}
+use Rattle.tsl_reader.specs.Spells.{Derives, name_tokens}
+use Rattle.tsl_reader.proofs.UsePlaces.{texts_of_names}
 
 -- what passes nowhere has no place
+none_any : {X : Type 0} (p : X → Bool) (xs : List X) → list_all (λ x. not (p x)) xs ≡ true → list_any p xs ≡ false
+none_any p [] h = refl
+none_any p (x ∷ xs) h = grind (arith, common_steps, none_any p xs)
 
-none_from : {X : Type 0} (p : X → Bool) (i : ℕ) (xs : List X) → list_all (λ x. not (p x)) xs ≡ true → position_from p i xs ≡ None
-none_from p i [] h = refl
-none_from p i (x ∷ xs) h = by (p x) (none_from p (i + 1) xs) h where
-  by : (b : Bool) → (list_all (λ y. not (p y)) xs ≡ true → position_from p (i + 1) xs ≡ None) →
-      (not b && list_all (λ y. not (p y)) xs) ≡ true → cond b (Some i) (position_from p (i + 1) xs) ≡ None
-  by true rest g = cc
-  by false rest g = rest g
-
-pub none_there : (p : Occurrence → Bool) (os : List Occurrence) → list_all (λ o. not (p o)) os ≡ true → position p os ≡ None
-none_there p os h = position_from-zero p os ∙ none_from p 0 os h
+pub none_there : {X : Type 0} (p : X → Bool) (xs : List X) → list_all (λ x. not (p x)) xs ≡ true → position p xs ≡ None
+none_there p xs h = none_is (position p xs) (ap is_some (position_from-zero p xs) ∙ any_from p 0 xs ∙ none_any p xs h)
 
 -- a place that is told is one of the list
-placed : (p : Occurrence → Bool) (os : List Occurrence) (at : ℕ) → position p os ≡ Some at → at < length os
-placed p os at h = by (nat_lt (position_or_len p os) (length os)) refl h where
-  by : (b : Bool) → nat_lt (position_or_len p os) (length os) ≡ b → cond b (Some (position_or_len p os)) None ≡ Some at →
-      at < length os
-  by true e g =
-      let same : position_or_len p os ≡ at = cc in
-      omega (arith, ltb-true (position_or_len p os) (length os) e, same)
-  by false e g = cc
+placed : {X : Type 0} (p : X → Bool) (xs : List X) (at : ℕ) → position p xs ≡ Some at → at < length xs
+placed p xs at h = grind (arith, common_steps, nat_tests)
+
+-- there are as many names as tokens of names
+pub as_many_names : (text : List ℕ) (tokens : List Token) (own : List Terminal) (ds : List Declaration) → Derives text tokens own ds →
+    length (names_in ds) ≡ length (name_tokens text tokens)
+as_many_names text tokens own ds d =
+    omega (
+      arith,
+      ap length (texts_of_names text tokens own ds d),
+      length-map (names_in ds) (λ o. o.text),
+      length-map (name_tokens text tokens) (token_text text),
+    )
 
 -- the name at a place that is told has its token
-token_at : (is_such : Occurrence → Bool) (text : List ℕ) (tokens : List Token) (own : List Terminal) (ds : List Declaration) →
+pub token_at : (is_such : Occurrence → Bool) (text : List ℕ) (tokens : List Token) (own : List Terminal) (ds : List Declaration) →
     Derives text tokens own ds → (at : ℕ) → position is_such (names_in ds) ≡ Some at →
     (token : Token) × (slice_get (name_tokens text tokens) at ≡ Some token)
 token_at is_such text tokens own ds d at h =
-    let o = slice_get_some (names_in ds) at (placed is_such (names_in ds) at h) in
-    token_of_name (names_in ds) (name_tokens text tokens) text at o.0 (texts_of_names text tokens own ds d) o.1
-
--- the token that is told is that of the first such name
-pub first_named : (is_such : Occurrence → Bool) (text : List ℕ) (tokens : List Token) (ds : List Declaration) (place : Option ℕ)
-    (token : Token) → place ≡ position is_such (names_in ds) → Some token ≡ option_and_then (slice_get (name_tokens text tokens)) place →
-    IsFirstName is_such text tokens ds token.start token.end
-first_named is_such text tokens ds place token is found =
-    let at = found_place (name_tokens text tokens) place token found in
-    record { at = at.0; first = sym is ∙ at.1; token = token; there = at.2; starts = refl; ends = refl }
-
--- where none is told there is none
-pub no_name : (is_such : Occurrence → Bool) (text : List ℕ) (tokens : List Token) (own : List Terminal) (ds : List Declaration)
-    (place : Option ℕ) → Derives text tokens own ds → place ≡ position is_such (names_in ds) →
-    None ≡ option_and_then (slice_get (name_tokens text tokens)) place → position is_such (names_in ds) ≡ None
-no_name is_such text tokens own ds place d is none =
-    sym is ∙ no_place (name_tokens text tokens) place (λ at h. token_at is_such text tokens own ds d at (sym is ∙ h)) none
+    slice_get_some (name_tokens text tokens) at (omega (arith, placed is_such (names_in ds) at h, as_many_names text tokens own ds d))

@@ -1,8 +1,9 @@
 -- Lists of terms and of formulas that get numbers member by member.
-use Rattle.std.proofs.Common.{◌≡◌, Bool, true, false, List, [], ◌∷◌, ◌++◌, map, refl, ap, sym, ◌∙◌}
-use Rattle.std.specs.Prelude.{ℕ, ◌+◌, ◌<◌, ◌≤◌, cond, length, get_or, drop, filter, flat_map, Option, Some, None, option_map}
-use Rattle.std.specs.Prelude.{option_and_then, if◌then◌else◌}
-use Rattle.std.proofs.Common.{append_assoc}
+use Rattle.std.proofs.Common.{◌≡◌, true, List, [], ◌∷◌, ◌++◌, map, refl, ap, sym, ◌∙◌}
+use Rattle.std.specs.Prelude.{ℕ, ◌+◌, ◌<◌, ◌≤◌, length, get_or, drop, Option, Some, None, option_map}
+use Rattle.std.specs.Prelude.{option_and_then}
+use Rattle.std.proofs.Common.{append_assoc, arith}
+use Rattle.std.proofs.lemmas.Grind.{common_steps}
 use Rattle.std.proofs.lemmas.List.{append-nil, drop_more, drop_all}
 use Rattle.std.specs.Option.{is_some}
 use Rattle.sequence.proofs.Lists.{with_front, with_front_push}
@@ -20,8 +21,15 @@ use Rattle.spec_syntax.specs.Syntax.{TermSyntax, TermsSyntax, more_terms as anot
 use Rattle.spec_syntax.specs.Syntax.{more_formulas as another_formula, SectionSyntax}
 use Rattle.spec_syntax.specs.SyntaxView.{section_syntax}
 use Rattle.tsl_reader.specs.Numbering.{formulas_after, formulas_if}
-use Rattle.tsl_reader.specs.Naming.{numbered_term, numbered_terms, numbered_formula, numbered_members, numbered_list, same_part}
+use Rattle.tsl_reader.specs.Naming.{numbered_term, numbered_terms, numbered_formula, numbered_members, numbered_list}
 use Rattle.tsl_reader.specs.Naming.{formulas_of_part}
+
+-- one member more in front of those that are left
+front_more : {T X L : Type 0} (more : X → L → L) (tree : T → X) (front : List T) (t : T) (found : Option L) →
+    option_map (with_front more (map tree (front ++ t ∷ []))) found
+    ≡ option_map (with_front more (map tree front)) (option_map (more (tree t)) found)
+front_more more tree front t (Some ts) = ap Some (with_front_push more tree front t ts)
+front_more more tree front t None = refl
 
 abbrev pub numbered_front : List TermTree → Option TermTrees → Option TermTrees
 numbered_front front rest = option_map (with_front more_terms front) rest
@@ -32,12 +40,7 @@ pub numbered_more : (names : List Name) (front all : List Term) (t : Term) (synt
     numbered_term names syntax ≡ Some (term_tree t) →
     numbered_front (map term_tree all) (numbered_terms names rest)
     ≡ numbered_front (map term_tree front) (numbered_terms names (another_term syntax rest))
-numbered_more names front all t syntax rest is h = rw (is, h) (by (numbered_terms names rest)) where
-  by : (found : Option TermTrees) →
-      numbered_front (map term_tree (front ++ t ∷ [])) found
-      ≡ numbered_front (map term_tree front) (option_map (more_terms (term_tree t)) found)
-  by (Some ts) = ap Some (with_front_push more_terms term_tree front t ts)
-  by None = refl
+numbered_more names front all t syntax rest is h = rw (is, h) (front_more more_terms term_tree front t (numbered_terms names rest))
 
 -- the terms are all
 pub numbered_all : (front : List TermTree) (all : Option TermTrees) (list : TermTrees) → numbered_front front (Some no_terms) ≡ all →
@@ -54,12 +57,7 @@ pub members_more : (names : List Name) (front all : List Formula) (f : Formula) 
     numbered_formula names syntax ≡ Some (formula_tree f) →
     members_front (map formula_tree all) (numbered_members names rest)
     ≡ members_front (map formula_tree front) (numbered_members names (another_formula syntax rest))
-members_more names front all f syntax rest is h = rw (is, h) (by (numbered_members names rest)) where
-  by : (found : Option FormulaTrees) →
-      members_front (map formula_tree (front ++ f ∷ [])) found
-      ≡ members_front (map formula_tree front) (option_map (more_formulas (formula_tree f)) found)
-  by (Some fs) = ap Some (with_front_push more_formulas formula_tree front f fs)
-  by None = refl
+members_more names front all f syntax rest is h = rw (is, h) (front_more more_formulas formula_tree front f (numbered_members names rest))
 
 pub members_all : (front : List FormulaTree) (all : Option FormulaTrees) (list : FormulaTrees) →
     members_front front (Some no_formulas) ≡ all → list ≡ formulas_of front → all ≡ Some list
@@ -69,31 +67,12 @@ members_all front all list h is = sym h ∙ ap Some (formulas_front_none front �
 
 numbered_append : (names : List Name) (fs gs : List FormulaSyntax) →
     numbered_list names (fs ++ gs) ≡ option_and_then (λ trees. formulas_after trees (numbered_list names gs)) (numbered_list names fs)
-numbered_append names [] gs = by (numbered_list names gs) where
-  by : (found : Option (List FormulaTree)) → found ≡ formulas_after [] found
-  by None = refl
-  by (Some trees) = refl
-numbered_append names (f ∷ fs) gs =
-    ap (λ found. option_and_then (λ tree. option_map (λ trees. tree ∷ trees) found) (numbered_formula names f))
-    (numbered_append names fs gs)
-    ∙ by (numbered_formula names f) (numbered_list names fs) (numbered_list names gs)
-  where
-    by : (first : Option FormulaTree) (left right : Option (List FormulaTree)) →
-        option_and_then (λ tree. option_map (λ trees. tree ∷ trees) (option_and_then (λ trees. formulas_after trees right) left)) first
-        ≡ option_and_then (λ trees. formulas_after trees right) (option_and_then (λ tree. option_map (λ trees. tree ∷ trees) left) first)
-    by None left right = refl
-    by (Some tree) None right = refl
-    by (Some tree) (Some trees) None = refl
-    by (Some tree) (Some trees) (Some more) = refl
+numbered_append names [] gs = grind (arith, common_steps)
+numbered_append names (f ∷ fs) gs = grind (arith, common_steps, numbered_append names fs gs)
 
-formulas_split : (part : Part) (s : SectionSyntax) (ss : List SectionSyntax) →
+pub formulas_split : (part : Part) (s : SectionSyntax) (ss : List SectionSyntax) →
     formulas_of_part part (s ∷ ss) ≡ formulas_if part s ++ formulas_of_part part ss
-formulas_split part s ss = by (same_part part s.part) where
-  by : (is : Bool) → flat_map (λ (r : SectionSyntax). r.formulas)
-      (cond is (s ∷ filter (λ r. same_part part r.part) ss) (filter (λ r. same_part part r.part) ss))
-      ≡ (if is then s.formulas else []) ++ formulas_of_part part ss
-  by true = refl
-  by false = refl
+formulas_split part s ss = grind (arith, common_steps)
 
 -- the formulas that are left, with a section in front
 next_section : (part : Part) (ss : List ReadSection) (i : ℕ) (d : ReadSection) → i < length ss →
@@ -106,16 +85,11 @@ next_section part ss i d within =
 after_first : (front : List FormulaTree) (left right : Option (List FormulaTree)) (all : List FormulaTree) →
     formulas_after front left ≡ Some all →
     formulas_after all right ≡ formulas_after front (option_and_then (λ trees. formulas_after trees right) left)
-after_first front None right all h = cc
-after_first front (Some trees) None all h = refl
-after_first front (Some trees) (Some more) all h =
-    let same : front ++ trees ≡ all = cc in
-    ap (λ ts. Some (ts ++ more)) (sym same) ∙ ap Some (append_assoc front trees more)
+after_first front left right all h = grind (arith, common_steps, append_assoc)
 
 some_first : (front : List FormulaTree) (left right : Option (List FormulaTree)) →
     is_some (formulas_after front (option_and_then (λ trees. formulas_after trees right) left)) ≡ true → is_some left ≡ true
-some_first front None right h = h
-some_first front (Some trees) right h = refl
+some_first front left right h = grind (arith, common_steps)
 
 -- a section's formulas have their numbers
 pub section_some : (names : List Name) (part : Part) (ss : List ReadSection) (i : ℕ) (d : ReadSection) (front : List FormulaTree)
@@ -123,12 +97,8 @@ pub section_some : (names : List Name) (part : Part) (ss : List ReadSection) (i 
     formulas_after front (numbered_list names (formulas_of_part part (map section_syntax (drop i ss)))) ≡ all → is_some all ≡ true →
     is_some (numbered_list names (formulas_if part (section_syntax (get_or ss i d)))) ≡ true
 section_some names part ss i d front all within h k =
-    let first = formulas_if part (section_syntax (get_or ss i d)) in
-    let rest = formulas_of_part part (map section_syntax (drop (i + 1) ss)) in
-    some_first front (numbered_list names first) (numbered_list names rest)
-    (ap (λ found. is_some (formulas_after front found)) (sym (numbered_append names first rest)
-    ∙ ap (numbered_list names) (sym (next_section part ss i d within)))
-    ∙ ap is_some h ∙ k)
+    let split = rw (next_section part ss i d within, numbered_append) at h in
+    some_first front (numbered_list names (formulas_if part (section_syntax (get_or ss i d)))) _ (ap is_some split ∙ k)
 
 -- one section more
 pub section_more : (names : List Name) (part : Part) (ss : List ReadSection) (i : ℕ) (d : ReadSection) (front more : List FormulaTree)
@@ -137,11 +107,8 @@ pub section_more : (names : List Name) (part : Part) (ss : List ReadSection) (i 
     formulas_after front (numbered_list names (formulas_of_part part (map section_syntax (drop i ss)))) ≡ all →
     formulas_after more (numbered_list names (formulas_of_part part (map section_syntax (drop (i + 1) ss)))) ≡ all
 section_more names part ss i d front more all within e h =
-    let first = formulas_if part (section_syntax (get_or ss i d)) in
-    let rest = formulas_of_part part (map section_syntax (drop (i + 1) ss)) in
-    after_first front (numbered_list names first) (numbered_list names rest) more e
-    ∙ ap (formulas_after front) (sym (numbered_append names first rest) ∙ ap (numbered_list names) (sym (next_section part ss i d within)))
-    ∙ h
+    let split = rw (next_section part ss i d within, numbered_append) at h in
+    after_first front (numbered_list names (formulas_if part (section_syntax (get_or ss i d)))) _ more e ∙ split
 
 members_in_of : (fs : List FormulaTree) → members_in (formulas_of fs) ≡ fs
 members_in_of [] = refl
@@ -153,6 +120,5 @@ pub sections_all : (names : List Name) (part : Part) (ss : List ReadSection) (i 
     formulas_after front (numbered_list names (formulas_of_part part (map section_syntax (drop i ss)))) ≡ all → list ≡ formulas_of front →
     all ≡ Some (members_in list)
 sections_all names part ss i front all list past h is =
-    sym (ap (λ rs. formulas_after front (numbered_list names (formulas_of_part part (map section_syntax rs)))) (sym
-    (drop_all i ss past)) ∙ h)
-    ∙ ap Some (append-nil front ∙ sym (members_in_of front) ∙ ap members_in (sym is))
+    let whole = rw (drop_all i ss past) at h in
+    sym whole ∙ ap Some (append-nil front ∙ sym (members_in_of front) ∙ ap members_in (sym is))

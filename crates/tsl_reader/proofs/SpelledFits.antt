@@ -1,11 +1,9 @@
 -- A spelled specification fits: its names are distinct and may be written, and its formulas fit them.
-use Rattle.std.proofs.Common.{◌≡◌, ℕ, Bool, true, List, [], ◌∷◌, ◌++◌, refl, ap, sym, ◌∙◌, inl, inr}
-use Rattle.std.specs.Prelude.{Option, Some, None, flat_map, IsTrue}
-use Rattle.std.specs.List.{list_all, AllByRecursion}
+use Rattle.std.proofs.Common.{◌≡◌, ℕ, true, List, [], refl, ap, sym, ◌∙◌, inl, inr}
+use Rattle.std.specs.Prelude.{Some, flat_map, IsTrue}
+use Rattle.std.specs.List.{list_all}
 use Rattle.std.proofs.lemmas.List.Folds.{list_all-append}
-use Rattle.std.proofs.lemmas.Bool.{and_from}
-use Rattle.tsl_terms.specs.Name.{Name, number_of}
-use Rattle.tsl_terms.specs.Clashes.{added_unless_found, with_use, with_uses}
+use Rattle.tsl_terms.specs.Name.{Name}
 use Rattle.tsl_terms.specs.FormulaTree.{FormulaTree}
 use Rattle.tsl_terms.specs.SpecTree.{SpecTree}
 use Rattle.tsl_terms.specs.WellFormed.{formula_fits, name_fits, SpecFits}
@@ -14,24 +12,14 @@ use Rattle.spec_syntax.specs.declared.syntax.Part.{Part}
 use Rattle.spec_syntax.specs.declared.syntax.Part.TheVariants.{AssumeFirst, AssumeAlways, GuaranteeFirst, GuaranteeAlways}
 use Rattle.tsl_reader.specs.Naming.{all_uses, named_by, names_of, numbered_list, formulas_of_part}
 use Rattle.tsl_reader.specs.Spells.{IsDerived, Spells}
+use Rattle.tsl_reader.proofs.FewNames.{kept_by_uses}
+use Rattle.sequence.proofs.Passes.{list_all_push}
 use Rattle.tsl_reader.proofs.Known.{MayBeNamed, each_named}
 use Rattle.tsl_reader.proofs.ExpandedTexts.{TextExpands, usable, list_good}
 
 name_is_fit : (n : Name) → MayBeNamed n → name_fits n ≡ true
 name_is_fit n (inl asks) = ap name_fits asks
 name_is_fit n (inr usable) = rw usable refl
-
-added_fits : (names : List Name) (u : Name) (found : Option ℕ) → IsTrue (list_all name_fits names) → MayBeNamed u →
-    IsTrue (list_all name_fits (added_unless_found names u found))
-added_fits names u (Some number) fit may = fit
-added_fits names u None fit may =
-    list_all-append name_fits names (u ∷ [])
-    ∙ and_from (list_all name_fits names) (list_all name_fits (u ∷ [])) fit (and_from (name_fits u) true (name_is_fit u may) refl)
-
-names_fit : (us names : List Name) → IsTrue (list_all name_fits names) → AllByRecursion MayBeNamed us →
-    IsTrue (list_all name_fits (with_uses names us))
-names_fit [] names fit may = fit
-names_fit (u ∷ us) names fit may = names_fit us (with_use names u) (added_fits names u (number_of names u.text) fit may.0) may.1
 
 text_expands : (text : List ℕ) (spec : SpecTree) → (d : IsDerived text spec) →
     TextExpands text d.tokens d.own d.declarations d.expanded d.sections
@@ -50,23 +38,17 @@ list_fits text spec d part fs is =
 pub derived_fits : (text : List ℕ) (spec : SpecTree) → IsDerived text spec → SpecFits spec
 derived_fits text spec d = record {
   distinct = rw d.names (first_uses_distinct (flat_map named_by (all_uses d.sections)));
-  names = rw d.names (names_fit (flat_map named_by (all_uses d.sections)) [] refl
+  names = rw d.names (kept_by_uses (λ names. IsTrue (list_all name_fits names)) MayBeNamed
+      (λ names u none fit may. list_all_push name_fits names u fit (name_is_fit u may)) (flat_map named_by (all_uses d.sections)) [] refl
       (each_named (all_uses d.sections) (usable text d.tokens d.own d.declarations d.expanded d.sections (text_expands text spec d))));
-  formulas = four (formula_fits spec.names) spec.assume_first spec.assume_always spec.guarantee_first spec.guarantee_always
-      (list_fits text spec d AssumeFirst spec.assume_first d.assume_first)
-      (list_fits text spec d AssumeAlways spec.assume_always d.assume_always)
-      (list_fits text spec d GuaranteeFirst spec.guarantee_first d.guarantee_first)
-      (list_fits text spec d GuaranteeAlways spec.guarantee_always d.guarantee_always);
+  formulas = simp (
+    list_all-append,
+    list_fits text spec d AssumeFirst spec.assume_first d.assume_first,
+    list_fits text spec d AssumeAlways spec.assume_always d.assume_always,
+    list_fits text spec d GuaranteeFirst spec.guarantee_first d.guarantee_first,
+    list_fits text spec d GuaranteeAlways spec.guarantee_always d.guarantee_always,
+  );
 }
-  where
-    joined : (p : FormulaTree → Bool) (xs ys : List FormulaTree) → list_all p xs ≡ true → list_all p ys ≡ true →
-        list_all p (xs ++ ys) ≡ true
-    joined p xs ys h k = list_all-append p xs ys ∙ and_from (list_all p xs) (list_all p ys) h k
-
-    four : (p : FormulaTree → Bool) (a b c e : List FormulaTree) → list_all p a ≡ true → list_all p b ≡ true → list_all p c ≡ true →
-        list_all p e ≡ true →
-        list_all p (a ++ b ++ c ++ e) ≡ true
-    four p a b c e h i j k = joined p (a ++ b ++ c) e (joined p (a ++ b) c (joined p a b h i) j) k
 
 pub spelled_fits : (text : List ℕ) (spec : SpecTree) → Spells text spec → SpecFits spec
 spelled_fits text spec h = derived_fits text spec h.derived

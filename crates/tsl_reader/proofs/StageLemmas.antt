@@ -1,13 +1,12 @@
 -- Steps of reading a text, over plain variables.
-use Rattle.std.proofs.Common.{◌≡◌, ℕ, zero, suc, ◌+◌, ◌-◌, ◌<◌, ◌≤◌, ◌^◌, Bool, true, false, cond, List, ◌∷◌, length, get_or, drop}
-use Rattle.std.proofs.Common.{refl, ap, sym, ◌∙◌, arith}
+use Rattle.std.proofs.Common.{◌≡◌, ℕ, suc, ◌+◌, ◌-◌, ◌<◌, Bool, true, false, List, length, get_or, drop}
+use Rattle.std.proofs.Common.{ap, sym, ◌∙◌, arith}
 use Rattle.std.proofs.lemmas.Bool.{leb-true, leb-false}
 use Rattle.std.proofs.lemmas.List.{drop_more}
+use Rattle.std.proofs.lemmas.Option.{same_Some}
 use Rattle.std.specs.List.{list_all}
-use Rattle.std.specs.Prelude.{Option, Some, None, Ok, Err, slice_get, flat_map, nat_le, MatchOption}
-use Rattle.sequence.proofs.Places.{slice_get_some}
+use Rattle.std.specs.Prelude.{Option, Some, slice_get, flat_map, nat_le}
 use Rattle.tsl_text.specs.declared.Token.{Token}
-use Rattle.tsl_text.specs.Division.{AreTokens}
 use Rattle.tsl_terms.specs.Name.{Name}
 use Rattle.tsl_terms.specs.Clashes.{first_uses}
 use Rattle.tsl_terms.specs.FormulaTree.{FormulaTrees, formulas_in as members_in}
@@ -15,110 +14,28 @@ use Rattle.tsl_terms.specs.Nodes.{nodes}
 use Rattle.tsl_terms.specs.SpecTree.{SpecTree, whole_formula}
 use Rattle.tsl_terms.specs.WellFormed.{formula_fits, formulas_fit}
 use Rattle.spec_syntax.specs.declared.syntax.Part.TheVariants.{AssumeFirst, AssumeAlways, GuaranteeFirst, GuaranteeAlways}
-use Rattle.spec_syntax.specs.declared.terminal.Terminal.{Terminal as LentTerminal}
-use Rattle.spec_syntax.specs.Syntax.{Terminal, FormulaSyntax, SectionSyntax, Declaration}
-use Rattle.token_readers.specs.Readers.{form, deep}
-use Rattle.spec_syntax.specs.Reading.{declarations}
-use Rattle.tsl_reader.specs.Naming.{Use, all_uses, named_by, names_of, numbered_list, formulas_of_part}
+use Rattle.spec_syntax.specs.Syntax.{FormulaSyntax, SectionSyntax}
+use Rattle.tsl_reader.specs.Naming.{named_by, names_of, numbered_list, formulas_of_part}
 use Rattle.tsl_reader.specs.Numbering.{HasNumbers}
-use Rattle.spec_syntax.specs.Texts.{terminal_at, terminals}
-use Rattle.tsl_reader.specs.Spells.{deepest_level, is_free, name_tokens, HasFormFault, HasDeepFault}
+use Rattle.spec_syntax.specs.Texts.{terminal_at}
+use Rattle.tsl_reader.specs.Spells.{is_free, name_tokens}
 use Rattle.tsl_reader.specs.Spells.{IsDerived, Spells, HasTooManyNodes, most_formula_nodes}
-use Rattle.tsl_reader.specs.ReadText.{AreDeclared, AreExpanded}
-use Rattle.spec_syntax.specs.SyntaxView.{terminals_view}
-use Rattle.spec_syntax.proofs.ExactDeclarations.{declarations_exact}
-use Rattle.spec_syntax.proofs.FirstFaults as first
-use Rattle.tsl_reader.proofs.Causes.{length_terminals, form_at_token, form_at_end, deep_at_token, deep_has_token}
-use Rattle.spec_syntax.proofs.ExactDeclarations.{declarations_derive}
-use Rattle.tsl_reader.proofs.NameBounds.{names_within}
-
-is_there : (tokens : List Token) (i : ℕ) → i < length tokens → slice_get tokens i ≡ None → ⊥
-is_there tokens i within none =
-    let some = slice_get_some tokens i within in
-    let never : Some some.0 ≡ None = sym some.1 ∙ none in
-    cc
-
--- where no token is left the place is the end
-at_end : (tokens : List Token) (left : ℕ) → left ≤ length tokens → slice_get tokens (length tokens - left) ≡ None → left ≡ 0
-at_end tokens zero h e = refl
-at_end tokens (suc left) h e = absurd (is_there tokens (length tokens - suc left) (omega (arith, h)) e)
+use Rattle.tsl_reader.specs.ReadText.{AreExpanded}
 
 -- the names among the tokens that are left
-
-next_names : (text : List ℕ) (ts : List Token) (i : ℕ) (d : Token) → i < length ts →
-    name_tokens text (drop i ts)
-    ≡ cond (is_free (terminal_at text (get_or ts i d))) (get_or ts i d ∷ name_tokens text (drop (i + 1) ts))
-    (name_tokens text (drop (i + 1) ts))
-next_names text ts i d within = ap (name_tokens text) (drop_more ts i d within)
 
 pub name_passed : (text : List ℕ) (ts : List Token) (i left less : ℕ) (d : Token) (at : Option Token) → i < length ts →
     is_free (terminal_at text (get_or ts i d)) ≡ true →
     (left ≡ 0 → ⊥) → less ≡ left - 1 → slice_get (name_tokens text (drop i ts)) left ≡ at →
     slice_get (name_tokens text (drop (i + 1) ts)) less ≡ at
 name_passed text ts i left less d at within is some one h =
-    let names = name_tokens text (drop (i + 1) ts) in
     let more : left ≡ suc less = omega (arith, some, one) in
-    sym (ap (λ l. slice_get (name_tokens text (drop i ts)) l) more
-    ∙ ap (λ ns. slice_get ns (suc less)) (next_names text ts i d within ∙ ap (λ b. cond b (get_or ts i d ∷ names) names) is))
-    ∙ h
+    rw (drop_more ts i d within, is, more) at h
 
 pub name_skipped : (text : List ℕ) (ts : List Token) (i left same : ℕ) (d : Token) (at : Option Token) → i < length ts →
     is_free (terminal_at text (get_or ts i d)) ≡ false → same ≡ left →
     slice_get (name_tokens text (drop i ts)) left ≡ at → slice_get (name_tokens text (drop (i + 1) ts)) same ≡ at
-name_skipped text ts i left same d at within is e h =
-    let names = name_tokens text (drop (i + 1) ts) in
-    ap (slice_get names) e
-    ∙ sym (ap (λ ns. slice_get ns left) (next_names text ts i d within ∙ ap (λ b. cond b (get_or ts i d ∷ names) names) is)) ∙ h
-
--- what was read
-
-pub derives : (text : List ℕ) (tokens : List Token) (xs : List LentTerminal) (ds : List Declaration) (rest : List Terminal) →
-    AreTokens text tokens →
-    terminals_view xs ≡ terminals text tokens → declarations deepest_level (terminals_view xs) ≡ Ok (ds, rest) →
-    AreDeclared text tokens ds
-derives text tokens xs ds rest are is h =
-    let read = declarations_derive deepest_level (terminals text tokens) ds rest (rw is at h) in
-    (read.0, record { tokens_are = are; derived = read.1 })
-
--- faults, with as many tokens left as terminals
-
-pub form_left : (text : List ℕ) (tokens : List Token) (xs : List LentTerminal) (left : ℕ) → terminals_view xs ≡ terminals text tokens →
-    declarations deepest_level (terminals_view xs) ≡ Err (form left) → left ≤ length tokens
-form_left text tokens xs left is h =
-    omega (arith, first.form_within (declarations_exact deepest_level) (terminals text tokens) left (rw is at h), length_terminals text tokens)
-
-pub deep_left : (text : List ℕ) (tokens : List Token) (xs : List LentTerminal) (left : ℕ) → terminals_view xs ≡ terminals text tokens →
-    declarations deepest_level (terminals_view xs) ≡ Err (deep left) → left ≤ length tokens
-deep_left text tokens xs left is h = (deep_has_token text tokens left (rw is at h)).1
-
-pub form_fault : (text : List ℕ) (tokens : List Token) (xs : List LentTerminal) (left at : ℕ) → AreTokens text tokens →
-    terminals_view xs ≡ terminals text tokens →
-    declarations deepest_level (terminals_view xs) ≡ Err (form left) →
-    MatchOption (slice_get tokens (length tokens - left)) (at ≡ length text) (λ token. at ≡ token.start) → HasFormFault text at
-form_fault text tokens xs left at are is h place = by (slice_get tokens (length tokens - left)) refl place where
-  read : declarations deepest_level (terminals text tokens) ≡ Err (form left)
-  read = rw is at h
-
-  by : (found : Option Token) → slice_get tokens (length tokens - left) ≡ found →
-      MatchOption found (at ≡ length text) (λ token. at ≡ token.start) → HasFormFault text at
-  by None e k = rw k (form_at_end text tokens are left read (at_end tokens left (form_left text tokens xs left is h) e))
-  by (Some token) e k = rw k (form_at_token text tokens are left read token e)
-
-pub deep_fault : (text : List ℕ) (tokens : List Token) (xs : List LentTerminal) (left at : ℕ) → AreTokens text tokens →
-    terminals_view xs ≡ terminals text tokens →
-    declarations deepest_level (terminals_view xs) ≡ Err (deep left) →
-    MatchOption (slice_get tokens (length tokens - left)) (at ≡ length text) (λ token. at ≡ token.start) → HasDeepFault text at
-deep_fault text tokens xs left at are is h place = by (slice_get tokens (length tokens - left)) refl place where
-  read : declarations deepest_level (terminals text tokens) ≡ Err (deep left)
-  read = rw is at h
-
-  within : length tokens - left < length tokens
-  within = omega (arith, (deep_has_token text tokens left read).0, (deep_has_token text tokens left read).1)
-
-  by : (found : Option Token) → slice_get tokens (length tokens - left) ≡ found →
-      MatchOption found (at ≡ length text) (λ token. at ≡ token.start) → HasDeepFault text at
-  by None e k = absurd (is_there tokens (length tokens - left) within e)
-  by (Some token) e k = rw k (deep_at_token text tokens are left read token e)
+name_skipped text ts i left same d at within is e h = rw e (rw (drop_more ts i d within, is) at h)
 
 -- a list that has its numbers fits the names
 
@@ -126,8 +43,7 @@ pub list_fits : (names : List Name) (fs : List FormulaSyntax) (list : FormulaTre
     numbered_list names fs ≡ Some (members_in list) →
     formulas_fit names list ≡ true
 list_fits names fs list h is =
-    let same : Some h.trees ≡ Some (members_in list) = sym h.numbered ∙ is in
-    let trees : h.trees ≡ members_in list = cc in
+    let trees = same_Some h.trees (members_in list) (sym h.numbered ∙ is) in
     ap (list_all (formula_fits names)) (sym trees) ∙ h.fit
 
 -- the specification
@@ -155,11 +71,6 @@ derives_spec text ss names spec e named are a b c d = record {
   guarantee_first = sym (e.stand_for.numbers spec.names GuaranteeFirst) ∙ (rw are c);
   guarantee_always = sym (e.stand_for.numbers spec.names GuaranteeAlways) ∙ (rw are d);
 }
-
--- not more names than fit
-pub few_firsts : (ss : List SectionSyntax) (us : List Use) (names : List Name) → suc (length (all_uses ss)) < 2 ^ 32 →
-    names ≡ flat_map named_by us → us ≡ all_uses ss → length (first_uses names) < 2 ^ 32
-few_firsts ss us names few is are = rw (is, are) (omega (arith, few, names_within (all_uses ss)))
 
 -- how many nodes the whole formula has
 

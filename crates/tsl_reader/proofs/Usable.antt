@@ -1,8 +1,8 @@
 -- The names of a text's tokens are usable where they are no reserved words.
-use Rattle.std.proofs.Common.{◌≡◌, ℕ, Bool, true, false, ◌||◌, List, [], ◌∷◌, refl}
-use Rattle.std.specs.Prelude.{Option, Some, None, codes, IsTrue, if◌then◌else◌}
+use Rattle.std.proofs.Common.{◌≡◌, ℕ, true, false, List, [], ◌∷◌, refl, arith}
+use Rattle.std.proofs.lemmas.Grind.{common_steps}
+use Rattle.std.specs.Prelude.{Option, Some, None, IsTrue}
 use Rattle.std.specs.List.{AllByRecursion}
-use Rattle.std.specs.Str.{bytes_eq}
 use Rattle.std.proofs.lemmas.List.Elements.{recursion_from_All}
 use Rattle.tsl_text.specs.declared.Token.{Token}
 use Rattle.tsl_text.specs.declared.TokenKind.{TokenKind}
@@ -12,7 +12,6 @@ use Rattle.tsl_text.specs.Lexeme.{IsTokenText, lexeme_from, token_text}
 use Rattle.tsl_text.proofs.Parts.{each_token}
 use Rattle.tsl_text.specs.Names.{is_name_text, is_reserved, is_usable}
 use Rattle.spec_syntax.specs.declared.syntax.Word.{Word}
-use Rattle.spec_syntax.specs.declared.syntax.Word.TheVariants.{Assume, Guarantee, Always, Initially, True, False, X, F, G, U, W, R, A}
 use Rattle.spec_syntax.specs.Syntax.{Terminal, free, word, mark, word_of, free_unless, terminal_of}
 use Rattle.spec_syntax.specs.Texts.{terminal_at, terminals}
 use Rattle.spec_syntax.specs.Written.{free_texts}
@@ -24,22 +23,9 @@ IsUsable text = IsTrue (is_usable text)
 abbrev AreUsable : List Terminal → Type 0
 AreUsable xs = AllByRecursion IsUsable (free_texts xs)
 
-one_word : (is : Bool) (w : Word) (rest : Option Word) (others : Bool) → (rest ≡ None → others ≡ false) →
-    (if is then Some w else rest) ≡ None → (is || others) ≡ false
-one_word true w rest others further h = cc
-one_word false w rest others further h = further h
-
 -- what is no word is not reserved
 pub not_reserved : (text : List ℕ) → word_of text ≡ None → is_reserved text ≡ false
-not_reserved text h =
-    one_word (bytes_eq text (codes "assume")) Assume _ _
-    (one_word (bytes_eq text (codes "guarantee")) Guarantee _ _ (one_word (bytes_eq text (codes "always")) Always _ _
-    (one_word (bytes_eq text (codes "initially")) Initially _ _
-    (one_word (bytes_eq text (codes "true")) True _ _ (one_word (bytes_eq text (codes "false")) False _ _
-    (one_word (bytes_eq text (codes "X")) X _ _
-    (one_word (bytes_eq text (codes "F")) F _ _ (one_word (bytes_eq text (codes "G")) G _ _ (one_word (bytes_eq text (codes "U")) U _ _
-    (one_word (bytes_eq text (codes "W")) W _ _
-    (one_word (bytes_eq text (codes "R")) R _ _ (one_word (bytes_eq text (codes "A")) A None false (λ e. refl))))))))))))) h
+not_reserved text h = grind (arith, common_steps)
 
 usable_name : (text : List ℕ) → is_name_text text ≡ true → (found : Option Word) → word_of text ≡ found →
     AreUsable (free_unless text found ∷ [])

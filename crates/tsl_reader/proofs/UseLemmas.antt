@@ -1,12 +1,13 @@
 -- How many uses a term has, and first uses among the names that get numbers.
-use Rattle.std.proofs.Common.{◌≡◌, ℕ, ◌≤◌, Bool, true, false, cond, List, [], ◌∷◌, ◌++◌, map, length, refl, ap, ◌∙◌}
+use Rattle.std.proofs.Common.{◌≡◌, ℕ, ◌≤◌, false, List, [], ◌∷◌, map, length, refl}
 use Rattle.std.proofs.Common.{arith, length-append}
-use Rattle.std.specs.Prelude.{Some, flat_map}
+use Rattle.std.proofs.lemmas.Grind.{common_steps}
+use Rattle.std.specs.Prelude.{flat_map}
 use Rattle.std.specs.Str.{bytes_eq}
 use Rattle.tsl_terms.specs.Name.{question}
 use Rattle.tsl_terms.proofs.FirstUses.{first_of}
 use Rattle.spec_syntax.specs.Syntax.{TermSyntax, alone, applied, grouped_term, TermsSyntax, no_terms, more_terms}
-use Rattle.tsl_reader.specs.Naming.{Use, count_of_arguments, term_uses, terms_uses, question_use, named_by}
+use Rattle.tsl_reader.specs.Naming.{Use, count_of_arguments, term_uses, terms_uses, named_by}
 
 term_is_one : (t : TermSyntax) → 1 ≤ length (term_uses t)
 term_is_one (alone x) = omega arith
@@ -22,10 +23,4 @@ count_within (more_terms t ts) = omega (arith, term_is_one t, count_within ts, l
 pub first_other : (us : List Use) (text : List ℕ) → bytes_eq text question ≡ false →
     first_of (flat_map named_by us) text ≡ first_of (map (λ u. u.name) us) text
 first_other [] text other = refl
-first_other (u ∷ us) text other = by u.is_tested (bytes_eq text u.name.text) (first_other us text other) where
-  by : (asks is : Bool) → first_of (flat_map named_by us) text ≡ first_of (map (λ v. v.name) us) text →
-      cond is (Some u.name) (first_of (cond asks (question_use ∷ []) [] ++ flat_map named_by us) text)
-      ≡ cond is (Some u.name) (first_of (map (λ v. v.name) us) text)
-  by asks true h = refl
-  by false false h = h
-  by true false h = ap (λ b. cond b (Some question_use) (first_of (flat_map named_by us) text)) other ∙ h
+first_other (u ∷ us) text other = grind (arith, common_steps, first_other us text other)

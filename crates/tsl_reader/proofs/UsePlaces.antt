@@ -1,56 +1,36 @@
 -- Each name that stands in a text has its token, in the same order.
-use Rattle.std.proofs.Common.{◌≡◌, ℕ, zero, suc, List, [], ◌∷◌, map, refl, ap, ◌∙◌}
-use Rattle.std.specs.Prelude.{Option, Some, None, cond, slice_get}
+use Rattle.std.proofs.Common.{◌≡◌, ℕ, List, [], ◌∷◌, map, refl, ap, ◌∙◌, arith}
+use Rattle.std.proofs.lemmas.Grind.{common_steps}
+use Rattle.std.specs.Prelude.{Option, Some, None, cond}
 use Rattle.tsl_text.specs.declared.Token.{Token}
 use Rattle.tsl_text.specs.declared.TokenKind.{TokenKind}
 use Rattle.tsl_text.specs.declared.TokenKind.TheVariants.{Name as NameKind}
 use Rattle.tsl_text.specs.Lexeme.{lexeme_from, token_text}
 use Rattle.spec_syntax.specs.declared.syntax.Word.{Word}
-use Rattle.spec_syntax.specs.Syntax.{Terminal, free, word, mark, word_of, free_unless, terminal_of, Declaration}
-use Rattle.spec_syntax.specs.Texts.{terminal_at, terminals}
+use Rattle.spec_syntax.specs.Syntax.{Terminal, word_of, free_unless, terminal_of, Declaration}
+use Rattle.spec_syntax.specs.Texts.{terminals}
 use Rattle.tsl_reader.specs.Spells.{deepest_level, Derives, is_free, name_tokens}
-use Rattle.declared_names.specs.Occurrences.{Occurrence}
 use Rattle.declared_names.specs.WrittenNames.{free_names}
 use Rattle.declared_names.specs.WellDeclared.{heads_of, names_in}
 use Rattle.declared_names.proofs.WrittenTexts.{occurrences_texts}
 
 -- the terminal of a token is a name with the token's bytes, or no name
-data IsOf (text : List ℕ) : Terminal → Type 0 where
-  of_name : IsOf text (free text)
-  of_word : (w : Word) → IsOf text (word w)
-  of_mark : (m : TokenKind) → IsOf text (mark m)
-
-of_unless : (text : List ℕ) (found : Option Word) → IsOf text (free_unless text found)
-of_unless text None = of_name
-of_unless text (Some w) = of_word w
-
-is_of : (kind : TokenKind) (text : List ℕ) → IsOf text (terminal_of (lexeme_from kind text))
-is_of NameKind text = of_unless text (word_of text)
-is_of kind text = of_mark kind
-
-one_token : (text : List ℕ) (t : Token) (rest : List Token) (x : Terminal) → IsOf (token_text text t) x →
-    free_names (terminals text rest) ≡ map (token_text text) (name_tokens text rest) →
-    free_names (x ∷ terminals text rest) ≡ map (token_text text) (cond (is_free x) (t ∷ name_tokens text rest) (name_tokens text rest))
-one_token text t rest x of_name h = ap (λ ts. token_text text t ∷ ts) h
-one_token text t rest x (of_word w) h = h
-one_token text t rest x (of_mark m) h = h
+one_token : (kind : TokenKind) (own : List ℕ) (xs : List Terminal) (names : List (List ℕ)) → free_names xs ≡ names →
+    free_names (terminal_of (lexeme_from kind own) ∷ xs) ≡ cond (is_free (terminal_of (lexeme_from kind own))) (own ∷ names) names
+one_token NameKind own xs names h = by (word_of own) where
+  by : (found : Option Word) → free_names (free_unless own found ∷ xs) ≡ cond (is_free (free_unless own found)) (own ∷ names) names
+  by None = ap (λ ts. own ∷ ts) h
+  by (Some w) = h
+one_token kind own xs names h = h
 
 each_name : (text : List ℕ) (tokens : List Token) → free_names (terminals text tokens) ≡ map (token_text text) (name_tokens text tokens)
 each_name text [] = refl
-each_name text (t ∷ tokens) = one_token text t tokens (terminal_at text t) (is_of t.kind (token_text text t)) (each_name text tokens)
+each_name text (t ∷ tokens) =
+    let first = one_token t.kind (token_text text t) (terminals text tokens) _ (each_name text tokens) in
+    grind (arith, common_steps)
 
 -- the bytes of the tokens that are names are those of the names of what is read, in order
 pub texts_of_names : (text : List ℕ) (tokens : List Token) (own : List Terminal) (ds : List Declaration) → Derives text tokens own ds →
     map (λ o. o.text) (names_in ds) ≡ map (token_text text) (name_tokens text tokens)
 texts_of_names text tokens own ds d =
     occurrences_texts (heads_of ds) deepest_level (terminals text tokens) own ds d.derived ∙ each_name text tokens
-
--- a name of a list has its token in the list of theirs
-pub token_of_name : (os : List Occurrence) (ts : List Token) (text : List ℕ) (at : ℕ) (o : Occurrence) →
-    map (λ o. o.text) os ≡ map (token_text text) ts → slice_get os at ≡ Some o → (token : Token) × (slice_get ts at ≡ Some token)
-token_of_name [] ts text at o same h = cc
-token_of_name (v ∷ os) [] text at o same h = cc
-token_of_name (v ∷ os) (t ∷ ts) text zero o same h = (t, refl)
-token_of_name (v ∷ os) (t ∷ ts) text (suc at) o same h =
-    let others : map (λ o. o.text) os ≡ map (token_text text) ts = cc in
-    token_of_name os ts text at o others h

@@ -1,14 +1,13 @@
 -- A text without a definition spells what its sections say, with the names as they stand in them.
 use Rattle.std.proofs.Common.{◌≡◌, ℕ, suc, Bool, false, not, List, [], ◌∷◌, ◌++◌, map, refl, ap, sym, ◌∙◌, subst}
-use Rattle.std.specs.Prelude.{Option, Some, None, flat_map, position, slice_get, option_map, cond, ◌&&◌, ◌||◌}
+use Rattle.std.specs.Prelude.{Option, Some, None, flat_map, position, slice_get, option_map, cond, ◌&&◌}
 use Rattle.std.proofs.Math.Bool.{and-false}
-use Rattle.std.specs.List.{AllByRecursion, list_any}
-use Rattle.std.specs.Option.{is_some, option_map_or}
+use Rattle.std.specs.List.{AllByRecursion}
+use Rattle.std.specs.Option.{option_map_or}
 use Rattle.std.proofs.lemmas.Option.{none-some, slice_get-map}
 use Rattle.std.proofs.lemmas.List.{map-append}
-use Rattle.std.proofs.lemmas.Iterator.Adapters.{position_from-zero}
 use Rattle.sequence.proofs.Each.{each_at, each_from_places, each_joined, each_flat_map}
-use Rattle.sequence.proofs.Options.{none_is}
+use Rattle.sequence.proofs.Passes.{list_all_from_places}
 use Rattle.tsl_text.specs.declared.Token.{Token}
 use Rattle.tsl_text.specs.Division.{AreTokens}
 use Rattle.tsl_terms.specs.declared.names.NameKind.TheVariants.{Signal, Predicate, Function}
@@ -38,12 +37,12 @@ use Rattle.declared_names.specs.Faults.{has_kind_fault, has_arity_fault, is_unli
 use Rattle.declared_names.specs.Faults.{is_unlike_name}
 use Rattle.declared_names.specs.WellDeclared.{AreNamedWell, NoneOnCycle, heads_of, names_in}
 use Rattle.declared_names.proofs.FirstPlain.{unlike_is}
-use Rattle.declared_names.proofs.NameTests.{any_from}
 use Rattle.tsl_reader.specs.Naming.{Use, uses, term_uses, terms_uses, members_uses, section_uses, all_uses, written_uses}
 use Rattle.tsl_reader.specs.Naming.{names_of, numbered_list, formulas_of_part}
 use Rattle.tsl_reader.specs.Spells.{IsDerived, deepest_level}
 use Rattle.declared_names.proofs.EachName.{each_name}
 use Rattle.tsl_reader.proofs.Known.{like_first}
+use Rattle.tsl_reader.proofs.NamePlaces.{none_there}
 use Rattle.tsl_reader.proofs.UsesStand.{count_same}
 
 -- ---- no definition
@@ -167,13 +166,8 @@ plain_names_are [] plain = refl
 plain_names_are (o ∷ os) plain =
     ap (λ r. cond (is_plain r) (name_of o ∷ []) [] ++ plain_names os) plain.0 ∙ ap (λ ns. name_of o ∷ ns) (plain_names_are os plain.1)
 
-none_any : {X : Type 0} (p : X → Bool) (xs : List X) → ((i : ℕ) (x : X) → slice_get xs i ≡ Some x → p x ≡ false) → list_any p xs ≡ false
-none_any p [] none = refl
-none_any p (x ∷ xs) none =
-    ap (λ b. b || list_any p xs) (none 0 x refl) ∙ none_any p xs (λ i y there. none (suc i) y there)
-
 no_place : {X : Type 0} (p : X → Bool) (xs : List X) → ((i : ℕ) (x : X) → slice_get xs i ≡ Some x → p x ≡ false) → position p xs ≡ None
-no_place p xs none = none_is (position p xs) (ap is_some (position_from-zero p xs) ∙ any_from p 0 xs ∙ none_any p xs none)
+no_place p xs none = none_there p xs (list_all_from_places (λ x. not (p x)) xs (λ i x at. ap not (none i x at)))
 
 module _ (os : List Occurrence) (us : List Name) (plain : ArePlain os us) where
   names_are : plain_names os ≡ us

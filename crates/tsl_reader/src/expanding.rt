@@ -13,7 +13,6 @@ ghost use Rattle.tsl_reader.specs.ReadText.{AreTextParts, AreExpanded};
 ghost use Rattle.tsl_reader.specs.Expanding.{bare_expansion, expanded_bare};
 ghost use Rattle.tsl_reader.specs.Expanding.{nodes_of_formulas, nodes_of_sections};
 
-use crate::splitting::Parts;
 use crate::text_names::{TextNames, check_names, check_uses, order_of};
 use crate::{MOST_NODES, SpecError};
 use named_formulas::{NODES_STOP, ReadDefinition, Size, expansion, expansion_size, sizes};
@@ -24,6 +23,7 @@ use tsl_terms::Names;
 use tsl_text::Token;
 
 /// How many nodes the expansions of formulas have with these before them, up to `NODES_STOP`.
+#[tactic(auto, using(crate::proofs::NodeSums::formula_counted))]
 fn nodes_with(heads: &Names, sizes: &[Size], formulas: &[ReadFormula], before: u32) -> u32
     requires { before ≤ NODES_STOP }
     ensures few { result ≤ NODES_STOP }
@@ -39,6 +39,7 @@ fn nodes_with(heads: &Names, sizes: &[Size], formulas: &[ReadFormula], before: u
 }
 
 /// How many nodes the expansions of the formulas of sections have, up to `NODES_STOP`.
+#[tactic(auto, using(crate::proofs::NodeSums::section_counted))]
 fn nodes_of_sections(heads: &Names, sizes: &[Size], sections: &[ReadSection]) -> u32
     ensures { (ds : List Definition) → AreSizes heads.now ds sizes.now → result
         ≡ min NODES_STOP (nodes_of_sections ds (map section_syntax sections.now)) }
@@ -48,6 +49,21 @@ fn nodes_of_sections(heads: &Names, sizes: &[Size], sections: &[ReadSection]) ->
         nodes = nodes_with(heads, sizes, &section.formulas, nodes);
     }
     nodes
+}
+
+/// The expansion of a formula, without brackets. An `Err` says that memory ran out.
+#[tactic(auto, using(crate::proofs::BareExpansions::as_many))]
+fn bare_expansion<'a>(
+    alloc: Global,
+    heads: &Names,
+    definitions: &[ReadDefinition<'a>],
+    formula: &ReadFormula<'a>,
+) -> Result<ReadFormula<'a>, NoMemory>
+    requires { AreHeads heads.now definitions.now }
+    ensures { IfOk result (λ expanded. formula_syntax expanded
+        ≡ bare_expansion (map definition_of definitions.now) (formula_syntax formula.now)) }
+{
+    expansion(alloc, heads, definitions, heads.count(), formula)
 }
 
 /// The expansions of formulas. An `Err` says that memory ran out.
@@ -63,7 +79,7 @@ fn expanded_formulas<'a>(
 {
     let mut list = Vec::new(alloc);
     for formula in formulas {
-        list.push(expansion(alloc, heads, definitions, heads.count(), formula)?)?;
+        list.push(bare_expansion(alloc, heads, definitions, formula)?)?;
     }
     Ok(list)
 }
@@ -109,27 +125,28 @@ fn sections_with_uses<'a>(
     alloc: Global,
     text: &[u8],
     tokens: &[Token],
-    names: &TextNames,
-    parts: &Parts<'a>,
+    names: TextNames,
+    sections: &[ReadSection<'a>],
+    definitions: &[ReadDefinition<'a>],
 ) -> Result<Vec<ReadSection<'a>>, SpecError>
     requires text { length text.now < 2 ^ 32 - 1 }
     requires each { All (IsTokenOf text.now) tokens.now }
-    requires parts { AreTextParts text.now tokens.now names.now.heads
-        (map occurrence_of names.now.occurrences.items)
-        (map section_syntax parts.now.sections.items)
-        (map definition_of parts.now.definitions.items) }
+    requires parts { AreTextParts text.now tokens.now names.heads.now
+        (map occurrence_of names.occurrences.now) (map section_syntax sections.now)
+        (map definition_of definitions.now) }
     ensures expanded { IfOk result
         (λ sections. AreExpanded text.now (map section_syntax sections.items)) }
     ensures cause { IfErr result (HasCause text.now) }
 {
-    let order = order_of(alloc, text, tokens, names, &parts.definitions)?;
+    let order = order_of(alloc, text, tokens, names, definitions)?;
     check_names(alloc, text, tokens, names)?;
-    let sizes = sizes(alloc, &names.heads, &parts.definitions, &order)?;
-    check_uses(alloc, text, tokens, names, &sizes)?;
-    if nodes_of_sections(&names.heads, &sizes, &parts.sections) > MOST_NODES {
+    let sizes = sizes(alloc, names.heads, definitions, &order)?;
+    let sizes = sizes.as_slice();
+    check_uses(alloc, text, tokens, names, sizes)?;
+    if nodes_of_sections(names.heads, sizes, sections) > MOST_NODES {
         return Err(SpecError::Nodes);
     }
-    Ok(expanded_sections(alloc, &names.heads, &parts.definitions, &parts.sections)?)
+    Ok(expanded_sections(alloc, names.heads, definitions, sections)?)
 }
 
 /// The sections that a text expands to. Those of a text without definitions stay as they are.
@@ -137,22 +154,22 @@ pub(crate) fn sections_of_parts<'a>(
     alloc: Global,
     text: &[u8],
     tokens: &[Token],
-    names: &TextNames,
-    parts: Parts<'a>,
+    names: TextNames,
+    sections: Vec<ReadSection<'a>>,
+    definitions: &[ReadDefinition<'a>],
 ) -> Result<Vec<ReadSection<'a>>, SpecError>
     requires text { length text.now < 2 ^ 32 - 1 }
     requires each { All (IsTokenOf text.now) tokens.now }
-    requires parts { AreTextParts text.now tokens.now names.now.heads
-        (map occurrence_of names.now.occurrences.items)
-        (map section_syntax parts.sections.items)
-        (map definition_of parts.definitions.items) }
+    requires parts { AreTextParts text.now tokens.now names.heads.now
+        (map occurrence_of names.occurrences.now) (map section_syntax sections.items)
+        (map definition_of definitions.now) }
     ensures expanded { IfOk result
         (λ sections. AreExpanded text.now (map section_syntax sections.items)) }
     ensures cause { IfErr result (HasCause text.now) }
 {
-    if !parts.definitions.is_empty() {
-        return sections_with_uses(alloc, text, tokens, names, &parts);
+    if !definitions.is_empty() {
+        return sections_with_uses(alloc, text, tokens, names, &sections, definitions);
     }
     check_names(alloc, text, tokens, names)?;
-    Ok(parts.sections)
+    Ok(sections)
 }

@@ -27,6 +27,7 @@ pub fn one_specification()
 {}
 
 /// A text has at most one cause of refusal, and none where it spells a specification.
+#[tactic(auto, using(crate::proofs::OneCause::one_cause, crate::proofs::OneCause::cause_refuses))]
 pub fn one_cause()
     ensures one { (text : List ℕ) (a b : SpecError) → IsOfText a → IsOfText b → HasCause text a →
         HasCause text b → a ≡ b }
@@ -41,6 +42,7 @@ pub fn spelled_specifications_fit()
 
 /// The tokens of a text that are names and no reserved words are, in order, the names of what it derives
 /// from.
+#[tactic(auto, using(crate::proofs::UsePlaces::texts_of_names))]
 pub fn names_stand_in_order()
     ensures { (text : List ℕ) (tokens : List Token) (own : List Terminal) (ds : List Declaration)
         → Derives text tokens own ds
@@ -49,6 +51,7 @@ pub fn names_stand_in_order()
 
 /// A text without a definition has no more to it than its sections: their terminals expand to themselves,
 /// and no name is wrong where it stands where none clashes with its first use.
+#[tactic(auto, using(crate::proofs::WithoutDefinitions::named_well, spec_syntax::proofs::DeclarationLaws::sections_are_all))]
 pub fn texts_without_definitions_are_their_sections()
     ensures derived { (text : List ℕ) (tokens : List Token) (ss : List SectionSyntax) → AreTokens text tokens
         → AreSections deepest_level (terminals text tokens) ss
@@ -62,6 +65,7 @@ pub fn texts_without_definitions_are_their_sections()
 {}
 
 /// A specification has at most one name more than its text has bytes, whatever its definitions stand for.
+#[tactic(auto, using(crate::proofs::FewNames::few_names))]
 pub fn names_are_few()
     ensures { (text : List ℕ) (spec : SpecTree) → Spells text spec
         → length spec.names ≤ suc (length text) }

@@ -106,10 +106,9 @@ pub(crate) fn parts_of<'a>(
         sections: Vec::new(alloc),
         definitions: Vec::new(alloc),
     };
+    declarations.reverse();
     while let Some(declaration) = declarations.pop() {
         add_declaration(alloc, &mut parts, declaration)?;
     }
-    parts.sections.reverse();
-    parts.definitions.reverse();
     Ok(parts)
 }

@@ -22,9 +22,10 @@ use crate::expanding::sections_of_parts;
 use crate::naming::numbered_names;
 use crate::numbering::formulas_of_part;
 use crate::splitting::parts_of;
-use crate::text_names::{check_heads, text_names};
+use crate::text_names::{TextNames, check_heads};
 use crate::uses::all_uses;
 use crate::{MOST_NODES, SpecError};
+use declared_names::{heads, occurrences};
 use sequence::NoMemory;
 use spec_syntax::{Part, ReadDeclaration, ReadFault, ReadSection, declarations, terminals};
 use std::alloc::Global;
@@ -98,10 +99,23 @@ fn sections_of<'a>(
     ensures cause { IfErr result (HasCause text.now) }
 {
     let declarations = declarations_of(alloc, text, tokens)?;
-    let names = text_names(alloc, &declarations)?;
-    check_heads(text, tokens, &names)?;
+    let read = declarations.as_slice();
+    let heads = heads(alloc, read)?;
+    let occurrences = occurrences(alloc, &heads, read)?;
+    let names = TextNames {
+        heads: &heads,
+        occurrences: &occurrences,
+    };
+    check_heads(text, tokens, names)?;
     let parts = parts_of(alloc, declarations)?;
-    sections_of_parts(alloc, text, tokens, &names, parts)
+    sections_of_parts(
+        alloc,
+        text,
+        tokens,
+        names,
+        parts.sections,
+        &parts.definitions,
+    )
 }
 
 /// The specification that a text derives, however many nodes its whole formula has.
@@ -125,6 +139,7 @@ pub(crate) fn has_few_nodes(spec: &Spec) -> bool
 }
 
 /// The names of sections.
+#[tactic(auto, using(crate::proofs::FewNames::names_within))]
 fn names_of_sections(alloc: Global, sections: &[ReadSection]) -> Result<Names, NoMemory>
     requires { suc (length (all_uses (map section_syntax sections.now))) < 2 ^ 32 }
     ensures { IfOk result (λ names. names ≡ names_of (map section_syntax sections.now)) }
@@ -135,6 +150,7 @@ fn names_of_sections(alloc: Global, sections: &[ReadSection]) -> Result<Names, N
 }
 
 /// The formulas of the sections that go to one list.
+#[tactic(auto, using(crate::proofs::StageLemmas::list_fits))]
 fn list_of(
     alloc: Global,
     names: &Names,

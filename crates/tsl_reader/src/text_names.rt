@@ -2,60 +2,37 @@
 
 ghost use Rattle.std.specs.Prelude.{◌≡◌, ℕ, ◌≤◌, ◌<◌, ◌-◌, ◌^◌, List, None, All, length, map};
 ghost use Rattle.std.specs.Prelude.{position, slice_get, option_and_then, IfOk, IfErr, OnOk};
-ghost use Rattle.std.specs.List.{AllByRecursion};
 ghost use Rattle.tsl_text.specs.Division.{IsTokenOf};
 ghost use Rattle.spec_syntax.specs.Syntax.{SectionSyntax, Definition};
 ghost use Rattle.spec_syntax.specs.Texts.{terminal_at};
-ghost use Rattle.spec_syntax.specs.SyntaxView.{declaration_syntax};
 ghost use Rattle.named_formulas.specs.DefinitionView.{definition_of};
 ghost use Rattle.named_formulas.specs.Uses.{IsOrder, IsFirstOnCycle};
 ghost use Rattle.named_formulas.specs.ExpansionSizes.{AreSizes};
-ghost use Rattle.declared_names.specs.Heads.{heads_size};
 ghost use Rattle.declared_names.specs.Faults.{is_redefined, has_kind_fault, has_arity_fault};
 ghost use Rattle.declared_names.specs.OccurrenceView.{occurrence_of};
-ghost use Rattle.declared_names.specs.WrittenNames.{IsBelowDepth};
-ghost use Rattle.declared_names.specs.WellDeclared.{heads_of, names_in, is_use_too_deep};
+ghost use Rattle.declared_names.specs.WellDeclared.{is_use_too_deep};
 ghost use Rattle.tsl_reader.specs.Spells.{is_free, name_tokens, HasCause};
 ghost use Rattle.tsl_reader.specs.ReadText.{AreTextNames, AreTextParts, AreInOrder, AreWell};
 
 use crate::SpecError;
 use declared_names::{
     ReadOccurrence, first_arity_fault, first_deep_use, first_head_fault, first_kind_fault,
-    head_place, heads, occurrences, plain_names,
+    head_place, plain_names,
 };
 use named_formulas::{OrderFault, ReadDefinition, Size, order};
 use sequence::NoMemory;
-use spec_syntax::{ReadDeclaration, Terminal, terminal_at};
+use spec_syntax::{Terminal, terminal_at};
 use std::alloc::Global;
 use tsl_terms::Names;
 use tsl_text::Token;
 
 /// The names of a text: those that are defined, and each where it stands.
-#[derive(Drop)]
+#[derive(Clone, Copy)]
 pub(crate) struct TextNames<'a> {
     /// The defined names.
-    pub(crate) heads: Names,
+    pub(crate) heads: &'a Names,
     /// Each name, in the order of the text, as what it occurs.
-    pub(crate) occurrences: Vec<ReadOccurrence<'a>>,
-}
-
-/// The names of declarations.
-pub(crate) fn text_names<'a>(
-    alloc: Global,
-    declarations: &[ReadDeclaration<'a>],
-) -> Result<TextNames<'a>, NoMemory>
-    requires heads { heads_size (map declaration_syntax declarations.now) < 2 ^ 32 }
-    requires names { length (names_in (map declaration_syntax declarations.now)) < 2 ^ 32 }
-    requires levels { AllByRecursion (IsBelowDepth (2 ^ 32))
-        (map declaration_syntax declarations.now) }
-    ensures heads { IfOk result
-        (λ names. names.heads ≡ heads_of (map declaration_syntax declarations.now)) }
-    ensures occurrences { IfOk result (λ names. map occurrence_of names.occurrences.items
-        ≡ names_in (map declaration_syntax declarations.now)) }
-{
-    let heads = heads(alloc, declarations)?;
-    let occurrences = occurrences(alloc, &heads, declarations)?;
-    Ok(TextNames { heads, occurrences })
+    pub(crate) occurrences: &'a [ReadOccurrence<'a>],
 }
 
 /// Whether a token is a name that is no reserved word.
@@ -92,15 +69,15 @@ fn told_token(text: &[u8], tokens: &[Token], place: Option<usize>) -> Option<Tok
 }
 
 /// Refuses a text with a name in a head that may not stand there.
-pub(crate) fn check_heads(text: &[u8], tokens: &[Token], names: &TextNames) -> Result<(), SpecError>
+pub(crate) fn check_heads(text: &[u8], tokens: &[Token], names: TextNames) -> Result<(), SpecError>
     requires each { All (IsTokenOf text.now) tokens.now }
-    requires named { AreTextNames text.now tokens.now names.now.heads
-        (map occurrence_of names.now.occurrences.items) }
+    requires named { AreTextNames text.now tokens.now names.heads.now
+        (map occurrence_of names.occurrences.now) }
     ensures once { OnOk result (position (λ o. is_redefined o.role)
-        (map occurrence_of names.now.occurrences.items) ≡ None) }
+        (map occurrence_of names.entry.occurrences.now) ≡ None) }
     ensures cause { IfErr result (HasCause text.now) }
 {
-    match told_token(text, tokens, first_head_fault(&names.occurrences)) {
+    match told_token(text, tokens, first_head_fault(names.occurrences)) {
         Some(token) => Err(SpecError::Defined(token.start, token.end)),
         None => Ok(()),
     }
@@ -110,19 +87,19 @@ pub(crate) fn check_heads(text: &[u8], tokens: &[Token], names: &TextNames) -> R
 fn cycle_at(
     text: &[u8],
     tokens: &[Token],
-    names: &TextNames,
+    names: TextNames,
     definitions: &[ReadDefinition],
     number: u32,
 ) -> SpecError
     requires each { All (IsTokenOf text.now) tokens.now }
     requires parts { (sections : List SectionSyntax) × AreTextParts text.now tokens.now
-        names.now.heads (map occurrence_of names.now.occurrences.items) sections
+        names.heads.now (map occurrence_of names.occurrences.now) sections
         (map definition_of definitions.now) }
     requires cycle { IsFirstOnCycle (map definition_of definitions.now) number }
     ensures { HasCause text.now result }
 {
     let name = definitions[number as usize].name;
-    match told_token(text, tokens, head_place(name, &names.occurrences)) {
+    match told_token(text, tokens, head_place(name, names.occurrences)) {
         Some(token) => SpecError::Cycle(token.start, token.end),
         None => unreachable!(),
     }
@@ -133,18 +110,18 @@ pub(crate) fn order_of(
     alloc: Global,
     text: &[u8],
     tokens: &[Token],
-    names: &TextNames,
+    names: TextNames,
     definitions: &[ReadDefinition],
 ) -> Result<Vec<u32>, SpecError>
     requires each { All (IsTokenOf text.now) tokens.now }
     requires parts { (sections : List SectionSyntax) × AreTextParts text.now tokens.now
-        names.now.heads (map occurrence_of names.now.occurrences.items) sections
+        names.heads.now (map occurrence_of names.occurrences.now) sections
         (map definition_of definitions.now) }
     ensures order { IfOk result
         (λ order. IsOrder (map definition_of definitions.now) order.items) }
     ensures cause { IfErr result (HasCause text.now) }
 {
-    match order(alloc, &names.heads, definitions) {
+    match order(alloc, names.heads, definitions) {
         Ok(order) => Ok(order),
         Err(OrderFault::Cycle(number)) => Err(cycle_at(text, tokens, names, definitions, number)),
         Err(OrderFault::NoMemory) => Err(SpecError::NoMemory),
@@ -156,25 +133,25 @@ pub(crate) fn check_names(
     alloc: Global,
     text: &[u8],
     tokens: &[Token],
-    names: &TextNames,
+    names: TextNames,
 ) -> Result<(), SpecError>
     requires text { length text.now < 2 ^ 32 - 1 }
     requires each { All (IsTokenOf text.now) tokens.now }
     requires ordered { (sections : List SectionSyntax) × (definitions : List Definition)
-        × AreInOrder text.now tokens.now names.now.heads
-        (map occurrence_of names.now.occurrences.items) sections definitions }
-    ensures kinds { let all = map occurrence_of names.now.occurrences.items in
+        × AreInOrder text.now tokens.now names.heads.now
+        (map occurrence_of names.occurrences.now) sections definitions }
+    ensures kinds { let all = map occurrence_of names.entry.occurrences.now in
         OnOk result (position (has_kind_fault all) all ≡ None) }
-    ensures arities { let all = map occurrence_of names.now.occurrences.items in
-        OnOk result (position (has_arity_fault names.now.heads all) all ≡ None) }
+    ensures arities { let all = map occurrence_of names.entry.occurrences.now in
+        OnOk result (position (has_arity_fault names.entry.heads.now all) all ≡ None) }
     ensures cause { IfErr result (HasCause text.now) }
 {
-    let firsts = plain_names(alloc, &names.occurrences)?;
-    let wrong = first_kind_fault(&firsts, &names.occurrences);
+    let firsts = plain_names(alloc, names.occurrences)?;
+    let wrong = first_kind_fault(&firsts, names.occurrences);
     if let Some(token) = told_token(text, tokens, wrong) {
         return Err(SpecError::Kind(token.start, token.end));
     }
-    let wrong = first_arity_fault(&names.heads, &firsts, &names.occurrences);
+    let wrong = first_arity_fault(names.heads, &firsts, names.occurrences);
     if let Some(token) = told_token(text, tokens, wrong) {
         return Err(SpecError::Arity(token.start, token.end));
     }
@@ -197,22 +174,22 @@ pub(crate) fn check_uses(
     alloc: Global,
     text: &[u8],
     tokens: &[Token],
-    names: &TextNames,
+    names: TextNames,
     sizes: &[Size],
 ) -> Result<(), SpecError>
     requires each { All (IsTokenOf text.now) tokens.now }
     requires well { (sections : List SectionSyntax) × (definitions : List Definition)
-        × AreWell text.now tokens.now names.now.heads
-        (map occurrence_of names.now.occurrences.items) sections definitions
-        × AreSizes names.now.heads definitions sizes.now }
+        × AreWell text.now tokens.now names.heads.now
+        (map occurrence_of names.occurrences.now) sections definitions
+        × AreSizes names.heads.now definitions sizes.now }
     ensures within { OnOk result ((definitions : List Definition)
-        → AreSizes names.now.heads definitions sizes.now
+        → AreSizes names.entry.heads.now definitions sizes.now
         → position (is_use_too_deep definitions)
-        (map occurrence_of names.now.occurrences.items) ≡ None) }
+        (map occurrence_of names.entry.occurrences.now) ≡ None) }
     ensures cause { IfErr result (HasCause text.now) }
 {
     let levels = levels_of(alloc, sizes)?;
-    let deep = first_deep_use(&names.heads, &levels, &names.occurrences);
+    let deep = first_deep_use(names.heads, &levels, names.occurrences);
     match told_token(text, tokens, deep) {
         Some(token) => Err(SpecError::DeepUse(token.start, token.end)),
         None => Ok(()),

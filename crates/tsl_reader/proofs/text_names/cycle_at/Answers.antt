@@ -1,4 +1,4 @@
-use Rattle.std.proofs.Common.{map, sym, ◌∙◌}
+use Rattle.std.proofs.Common.{map, ap, sym, ◌∙◌}
 use Rattle.std.specs.Prelude.{position}
 use Rattle.declared_names.specs.Faults.{is_head_of}
 use Rattle.declared_names.specs.OccurrenceView.{occurrence_of}
@@ -10,7 +10,7 @@ unreachable-requires c =
     let name = named_at c.args.definitions.now c.args.number c.index-definitions-number.result c.requires.cycle.definition
     c.requires.cycle.here in
     cycle_stands c.requires.parts.1 c.requires.cycle
-    (c.head_place.ensures ∙ (λ i. position (is_head_of (name i)) (map occurrence_of (c.deref.ensures.value i))))
+    (c.head_place.ensures ∙ ap (λ x. position (is_head_of x) (map occurrence_of c.args.names.occurrences.now)) name)
     (sym c.in-None.is ∙ c.told_token.ensures)
 
 pub returns : goal.returns
@@ -18,5 +18,5 @@ returns c =
     let name = named_at c.args.definitions.now c.args.number c.index-definitions-number.result c.requires.cycle.definition
     c.requires.cycle.here in
     cycle_told c.requires.parts.1 c.requires.cycle
-    (c.head_place.ensures ∙ (λ i. position (is_head_of (name i)) (map occurrence_of (c.deref.ensures.value i))))
+    (c.head_place.ensures ∙ ap (λ x. position (is_head_of x) (map occurrence_of c.args.names.occurrences.now)) name)
     (sym c.in-Some.is ∙ c.told_token.ensures)
