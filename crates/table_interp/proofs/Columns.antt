@@ -1,12 +1,12 @@
 -- The columns of a text as entries for cells: what their places and faults say of the inputs.
-use Rattle.std.proofs.Common.{◌≡◌, ◌∙◌, ℕ, ◌<◌, ◌==◌, Bool, true, false, not, ◌&&◌, ◌||◌, List, [], ◌∷◌, length, map, Option, Some, None}
+use Rattle.std.proofs.Common.{◌≡◌, ◌∙◌, ℕ, ◌<◌, ◌==◌, Bool, true, false, not, ◌&&◌, List, [], ◌∷◌, length, map, Option, Some, None}
 use Rattle.std.proofs.Common.{refl, sym, ap, subst, IsTrue}
 use Rattle.std.specs.Prelude.{slice_get, option_map, is_some, IsSomeAnd}
 use Rattle.std.specs.Option.{option_map_or}
-use Rattle.std.specs.List.{find, list_all, list_any, AllByRecursion}
+use Rattle.std.specs.List.{find, list_all, AllByRecursion}
 use Rattle.std.proofs.lemmas.Bool.{and_parts}
-use Rattle.std.proofs.lemmas.Option.{slice_get-map, slice_get_within}
-use Rattle.std.proofs.lemmas.List.Elements.{All-from_recursion}
+use Rattle.std.proofs.lemmas.Option.{slice_get-map}
+use Rattle.std.proofs.lemmas.List.Elements.{All-from_recursion, recursion_from_All}
 use Rattle.sequence.specs.Numbers.{is_among}
 use Rattle.sequence.specs.Options.{passes}
 use Rattle.sequence.proofs.Each.{each_both}
@@ -14,7 +14,7 @@ use Rattle.sequence.proofs.Finds.{each_fails}
 use Rattle.sequence.proofs.Lists.{map_map}
 use Rattle.sequence.proofs.Options.{some_mapped, none_mapped}
 use Rattle.sequence.proofs.Numbers.{among_place}
-use Rattle.sequence.proofs.Passes.{passes_at}
+use Rattle.sequence.proofs.Passes.{passes_at, list_any-map}
 use Rattle.tsl_terms.specs.declared.names.NameKind.TheVariants.{Signal}
 use Rattle.tsl_terms.specs.Name.{Name, is_name, same_kind}
 use Rattle.table_syntax.specs.Syntax.{TextToken, InputsSyntax}
@@ -24,14 +24,11 @@ use Rattle.entry_names.specs.Needed.{number_for, is_for, IsFirstRepeat, HasNoRep
 use Rattle.entry_names.specs.Entries.{Subject, column_subject_of, is_needed_as, is_known, numbers_of, has_no_entry}
 use Rattle.entry_names.specs.Entries.{AreLocated, HasEntryFault}
 use Rattle.entry_names.specs.Entries.{AreKnown as AreKnownEntries, AreOnce as AreOnceEntries, AreWhole as AreWholeEntries}
+use Rattle.entry_names.proofs.NeededNames.{cells_within}
 use Rattle.entry_names.proofs.Locate.{found_view, slot_is, has_place}
 use Rattle.table_interp.specs.Inputs.{is_input_name, has_no_column, AreKnown, AreOnce, AreWhole, HasRowCause}
 use Rattle.table_interp.specs.internal.Ordered.{columns_of, HavePlaces, AreOrdered}
 use Rattle.table_interp.specs.internal.Texts.{column_error}
-
-list_any-map : {X Y : Type 0} (p : Y → Bool) (f : X → Y) (xs : List X) → list_any p (map f xs) ≡ list_any (λ x. p (f x)) xs
-list_any-map p f [] = refl
-list_any-map p f (x ∷ xs) = ap (λ b. p (f x) || b) (list_any-map p f xs)
 
 pub numbers_are : (names : List Name) (given : InputsSyntax) → numbers_of names (columns_of given) ≡ map (number_for names) given.names
 numbers_are names given = map_map (λ (e : Subject). number_for names e.name) column_subject_of given.names
@@ -68,7 +65,7 @@ module _ (names : List Name) (inputs : List ℕ) (are : IsTrue (list_all (λ s. 
       ∙ (λ i. option_map column_subject_of (find (λ x. not (known_as x i)) given.names))
 
   no_column : (id : ℕ) → has_no_entry names (columns_of given) id ≡ has_no_column names given id
-  no_column id = ap not (list_any-map (λ (e : Subject). is_for names id e.name) column_subject_of given.names)
+  no_column id = ap not (list_any-map column_subject_of (λ (e : Subject). is_for names id e.name) given.names)
 
   known_columns : AreKnownEntries names inputs (columns_of given) → AreKnown names inputs given
   known_columns h = none_mapped column_subject_of _ (sym found_known ∙ h)
@@ -116,13 +113,14 @@ module _ (names : List Name) (inputs : List ℕ) (are : IsTrue (list_all (λ s. 
   column_cause domain entry.NoMemory h = tt
 
   -- each input's column has a place
-  pub have_places : (places : List (Option ℕ)) → AreLocated names (columns_of given) places →
-      AllByRecursion (λ s. s < length names) inputs → AreWhole names inputs given → HavePlaces places inputs
-  have_places places l within h =
+  pub have_places : (places : List (Option ℕ)) → AreLocated names (columns_of given) places → AreWhole names inputs given →
+      HavePlaces places inputs
+  have_places places l h =
       All-from_recursion (λ s. IsSomeAnd (slice_get places s) (λ slot. is_some slot ≡ true)) inputs
       (each_both (λ s. s < length names) (λ s. has_no_column names given s ≡ false)
       (λ s. IsSomeAnd (slice_get places s) (λ slot. is_some slot ≡ true))
-      (λ s inside e. has_place names s (columns_of given) places l inside (no_column s ∙ e)) inputs within
+      (λ s inside e. has_place names s (columns_of given) places l inside (no_column s ∙ e)) inputs
+      (recursion_from_All (λ s. s < length names) inputs (cells_within names inputs are))
       (each_fails (has_no_column names given) inputs h.whole))
 
 -- the column of each input stands at its place
@@ -136,10 +134,3 @@ order_stands {places = places} l (p ∷ order) (s ∷ inputs) within e =
     let first : slice_get places s ≡ Some (Some p) = cc in
     let others : map (λ (q : ℕ). Some (Some q)) order ≡ map (slice_get places) inputs = cc in
     λ i. slot_is l s (Some p) within.0 first i ∷ order_stands l order inputs within.1 others i
-
--- a slot that there is lies within the places
-pub slot_within : (places : List (Option ℕ)) (s : ℕ) → IsSomeAnd (slice_get places s) (λ slot. is_some slot ≡ true) → s < length places
-slot_within places s h = by (slice_get places s) refl h where
-  by : (o : Option (Option ℕ)) → slice_get places s ≡ o → IsSomeAnd o (λ slot. is_some slot ≡ true) → s < length places
-  by None e k = absurd k
-  by (Some slot) e k = slice_get_within places s slot e

@@ -1,5 +1,5 @@
 -- What entries without a cause of refusal say of each needed name, and that they give an interpretation.
-use Rattle.std.proofs.Common.{◌≡◌, ◌∙◌, ℕ, zero, suc, ◌<◌, ◌≤◌, ◌==◌, ◌^◌, true, false, not, ◌&&◌, cond, List, [], ◌∷◌}
+use Rattle.std.proofs.Common.{◌≡◌, ◌∙◌, ℕ, ◌<◌, ◌≤◌, ◌==◌, ◌^◌, true, false, not, ◌&&◌, cond, List, [], ◌∷◌}
 use Rattle.std.proofs.Common.{length, map, Option, Some, None, refl, sym, ap, subst, arith}
 use Rattle.std.specs.Prelude.{option_map, option_and_then, slice_get, is_some, filter, nat_lt, All, IsTrue}
 use Rattle.std.specs.Option.{option_map_or}
@@ -13,12 +13,12 @@ use Rattle.std.proofs.lemmas.List.Elements.{All-from_recursion, recursion_from_A
 use Rattle.sequence.proofs.Finds.{each_fails}
 use Rattle.sequence.proofs.Gathered.{length-all_there}
 use Rattle.sequence.proofs.Numbers.{numbers_at}
+use Rattle.sequence.proofs.Places.{slice_get_some}
 use Rattle.sequence.proofs.Options.{none_is, some_mapped}
-use Rattle.sequence.proofs.Lists.{map_map}
-use Rattle.table_interp.proofs.Growing.{gathered_are}
+use Rattle.table_interp.proofs.Growing.{gathered_are, gathered_each}
 use Rattle.sequence.specs.Numbers.{numbers_from}
 use Rattle.sequence.specs.Options.{all_there, passes}
-use Rattle.sequence.proofs.Each.{each_right, each_at, each_weaker, each_both}
+use Rattle.sequence.proofs.Each.{each_right, each_at, each_weaker, each_both, each_unmapped}
 use Rattle.sequence.proofs.Passes.{each_from_list_all}
 use Rattle.tsl_terms.specs.declared.names.NameKind.{NameKind}
 use Rattle.tsl_terms.specs.declared.names.NameKind.TheVariants.{Signal, Function, Predicate}
@@ -60,11 +60,7 @@ is_given names given id within entry length_is small =
           (e.0.numbers, ap (option_map (λ (d : Entry). d.numbers)) e.1)
 
       named : (o : Option Name) → slice_get names id ≡ o → IsGiven names given id
-      named None e = absurd (there names id within e) where
-        there : (xs : List Name) (k : ℕ) → k < length xs → slice_get xs k ≡ None → ⊥
-        there [] k few none = omega (arith, few)
-        there (x ∷ xs) zero few none = none-some x (sym none)
-        there (x ∷ xs) (suc k) few none = there xs k (omega (arith, few)) none
+      named None e = let there = slice_get_some names id within in absurd (none-some there.0 (sym e ∙ there.1))
       named (Some n) e = record {
         numbers = found.0;
         is = found.1;
@@ -88,16 +84,13 @@ kind_signal : (a b : NameKind) → same_kind a b ≡ true → a ≡ b
 kind_signal Signal Signal e = refl
 kind_signal Function Function e = refl
 kind_signal Predicate Predicate e = refl
-kind_signal Signal Function e = cc
-kind_signal Signal Predicate e = cc
-kind_signal Function Signal e = cc
-kind_signal Function Predicate e = cc
-kind_signal Predicate Signal e = cc
-kind_signal Predicate Function e = cc
+kind_signal a b e = cc
 
-name_kind : (n : Name) → (same_kind n.kind Signal && (n.arity == 0)) ≡ true → (n.kind ≡ Signal) × (n.arity ≡ 0)
-name_kind n e =
-    let parts = and_parts (same_kind n.kind Signal) (n.arity == 0) e in
+signal_kind : (names : List Name) (s : ℕ) (n : Name) → slice_get names s ≡ Some n → is_name names s Signal 0 ≡ true →
+    (n.kind ≡ Signal) × (n.arity ≡ 0)
+signal_kind names s n there is =
+    let test = sym (ap (λ o. option_map_or (λ m. same_kind m.kind Signal && (m.arity == 0)) o false) there) ∙ is in
+    let parts = and_parts (same_kind n.kind Signal) (n.arity == 0) test in
     (kind_signal n.kind Signal parts.0, eqb-true n.arity 0 parts.1)
 
 pub paired : (f : ℕ → Option (List ℕ)) (cells initial : List ℕ) → all_there (map f cells) ≡ Some (map (λ v. v ∷ []) initial) →
@@ -114,7 +107,8 @@ module _ (names : List Name) (cells : List ℕ) (given : TablesSyntax) (within :
       (each_fails (has_other_length names given) (needed names cells) h.so_far.counted)
       (each_fails (λ id. is_some (too_large names given id)) (needed names cells) h.in_range)
     where
-      by : (ids : List ℕ) → AllByRecursion (λ id. id < length names) ids → AllByRecursion (λ id. has_no_entry names (subjects_of given) id ≡ false) ids →
+      by : (ids : List ℕ) → AllByRecursion (λ id. id < length names) ids →
+          AllByRecursion (λ id. has_no_entry names (subjects_of given) id ≡ false) ids →
           AllByRecursion (λ id. has_other_length names given id ≡ false) ids →
           AllByRecursion (λ id. is_some (too_large names given id) ≡ false) ids → AllByRecursion (IsGiven names given) ids
       by [] a b c d = tt
@@ -142,10 +136,11 @@ module _ (names : List Name) (cells : List ℕ) (given : TablesSyntax) (within :
 
   -- a cell has one number, a value
   pub cells_one : given.domain ≤ MOST_VALUES → IsTrue (list_all (λ s. is_name names s Signal 0) cells) →
-      AllByRecursion (HasOneSmall names given.entries) cells
+      All (HasOneSmall names given.entries) cells
   cells_one few are =
-      each_both (IsGiven names given) (λ s. is_name names s Signal 0 ≡ true) (HasOneSmall names given.entries) one cells cells_given
-      (each_from_list_all (λ s. is_name names s Signal 0) cells are) where
+      All-from_recursion (HasOneSmall names given.entries) cells
+      (each_both (IsGiven names given) (λ s. is_name names s Signal 0 ≡ true) (HasOneSmall names given.entries) one cells cells_given
+      (each_from_list_all (λ s. is_name names s Signal 0) cells are)) where
         single : (ns : List ℕ) → length ns ≡ 1 → (n : ℕ) × (ns ≡ n ∷ [])
         single [] e = cc
         single (n ∷ []) e = (n, refl)
@@ -153,7 +148,7 @@ module _ (names : List Name) (cells : List ℕ) (given : TablesSyntax) (within :
 
         one : (s : ℕ) → IsGiven names given s → is_name names s Signal 0 ≡ true → HasOneSmall names given.entries s
         one s g is =
-            let kind = name_kind g.name (sym (ap (λ o. option_map_or (λ n. same_kind n.kind Signal && (n.arity == 0)) o false) g.there) ∙ is) in
+            let kind = signal_kind names s g.name g.there is in
             let size : length g.numbers ≡ 1 = g.many ∙ ap (λ n. given.domain ^ n) kind.1 ∙ pow-zero given.domain in
             let alone = single g.numbers size in
             let below : AllByRecursion (λ v. v < given.domain) (alone.0 ∷ []) =
@@ -204,27 +199,16 @@ module _ (names : List Name) (cells : List ℕ) (given : TablesSyntax) (within :
       initial = (
         sym (paired (numbers_for names given.entries) cells interpretation.initial gives.initial),
         All-from_recursion (λ v. v < interpretation.domain) interpretation.initial
-            (values interpretation.initial cells cells_given (each_from_list_all (λ s. is_name names s Signal 0) cells are)
-            (gathered_are (map (numbers_for names given.entries) cells) (map (λ v. v ∷ []) interpretation.initial) gives.initial
-            ∙ map_map (λ x. Some x) (λ v. v ∷ []) interpretation.initial)),
+            (each_weaker (λ v. AllByRecursion (λ w. w < interpretation.domain) (v ∷ [])) (λ v. v < interpretation.domain) (λ v h. h.0)
+            interpretation.initial (each_unmapped (AllByRecursion (λ v. v < interpretation.domain)) (λ v. v ∷ []) interpretation.initial
+            (gathered_each (numbers_for names given.entries) (λ s. IsGiven names given s × IsTrue (is_name names s Signal 0)) _
+            (λ s ns known e. below s ns known.0 known.1 e) cells (map (λ v. v ∷ []) interpretation.initial) gives.initial
+            (each_both _ _ _ (λ s g is. (g, is)) cells cells_given (each_from_list_all (λ s. is_name names s Signal 0) cells are))))),
       );
     } where
-      single : (s v : ℕ) → IsGiven names given s → is_name names s Signal 0 ≡ true → numbers_for names given.entries s ≡ Some (v ∷ []) →
-          v < interpretation.domain
-      single s v g is e =
-          let kind = name_kind g.name (sym (ap (λ o. option_map_or (λ n. same_kind n.kind Signal && (n.arity == 0)) o false) g.there)
-          ∙ is) in
-          let same : g.numbers ≡ v ∷ [] = same_Some g.numbers (v ∷ []) (sym g.is ∙ e) in
-          let below : AllByRecursion (λ w. w < given.domain) (v ∷ []) =
-          subst (λ (ns : List ℕ). AllByRecursion (λ w. w < given.domain) ns) same
-          (subst (λ (k : NameKind). AllByRecursion (λ w. w < limit_of given.domain k) g.numbers) kind.0 g.small) in
-          omega (arith, below.0, gives.domain)
-
-      values : (vs ids : List ℕ) → AllByRecursion (IsGiven names given) ids → AllByRecursion (λ s. is_name names s Signal 0 ≡ true) ids →
-          map (numbers_for names given.entries) ids ≡ map (λ v. Some (v ∷ [])) vs → AllByRecursion (λ v. v < interpretation.domain) vs
-      values [] ids a b h = tt
-      values (v ∷ vs) [] a b h = absurd cc
-      values (v ∷ vs) (s ∷ ids) a b h =
-          let first : numbers_for names given.entries s ≡ Some (v ∷ []) = cc in
-          let others : map (numbers_for names given.entries) ids ≡ map (λ w. Some (w ∷ [])) vs = cc in
-          (single s v a.0 b.0 first, values vs ids a.1 b.1 others)
+      below : (s : ℕ) (ns : List ℕ) → IsGiven names given s → is_name names s Signal 0 ≡ true →
+          numbers_for names given.entries s ≡ Some ns → AllByRecursion (λ v. v < interpretation.domain) ns
+      below s ns g is e =
+          let limit = ap (limit_of given.domain) (signal_kind names s g.name g.there is).0 ∙ sym gives.domain in
+          subst (λ l. AllByRecursion (λ v. v < l) ns) limit
+          (subst (AllByRecursion (λ v. v < limit_of given.domain g.name.kind)) (same_Some g.numbers ns (sym g.is ∙ e)) g.small)

@@ -1,6 +1,7 @@
 -- Lists that are gathered, and lists of numbers that grow by one in each round of a loop.
 use Rattle.std.proofs.Common.{◌≡◌, ◌∙◌, ℕ, ◌+◌, ◌<◌, List, [], ◌∷◌, ◌++◌, length, map, take, get_or, Option, Some, None, sym, ap}
 use Rattle.std.proofs.lemmas.List.{take_more, map-append}
+use Rattle.std.specs.List.{AllByRecursion}
 use Rattle.sequence.specs.Options.{all_there}
 use Rattle.sequence.proofs.Gathered.{gather_more}
 use Rattle.sequence.proofs.Options.{some_mapped}
@@ -13,6 +14,18 @@ gathered_are (None ∷ os) xs is = absurd (none-some xs is)
 gathered_are (Some x ∷ os) xs is =
     let rest = some_mapped (λ ys. x ∷ ys) (all_there os) xs is in
     ap (λ zs. Some x ∷ zs) (gathered_are os rest.0 rest.1) ∙ ap (map (λ y. Some y)) rest.2
+
+-- what holds of each that was gathered
+pub gathered_each : {X Y : Type 0} (f : X → Option Y) (Q : X → Type 0) (P : Y → Type 0) → ((x : X) (y : Y) → Q x → f x ≡ Some y → P y) →
+    (xs : List X) (ys : List Y) → all_there (map f xs) ≡ Some ys → AllByRecursion Q xs → AllByRecursion P ys
+gathered_each {X = X} {Y = Y} f Q P fits xs ys is each = by xs ys (gathered_are (map f xs) ys is) each where
+  by : (xs : List X) (ys : List Y) → map f xs ≡ map (λ y. Some y) ys → AllByRecursion Q xs → AllByRecursion P ys
+  by xs [] e all = tt
+  by [] (y ∷ ys) e all = absurd cc
+  by (x ∷ xs) (y ∷ ys) e all =
+      let first : f x ≡ Some y = cc in
+      let others : map f xs ≡ map (λ z. Some z) ys = cc in
+      (fits x y all.0 first, by xs ys others all.1)
 
 -- one value of a cell more
 pub gather_single : (f : ℕ → Option (List ℕ)) (ys : List ℕ) (i d : ℕ) (vs : List ℕ) (v : ℕ) → i < length ys →

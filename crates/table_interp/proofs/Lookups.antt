@@ -1,12 +1,9 @@
 -- The entry of a table at arguments, and the value of a cell at first.
-use Rattle.std.proofs.Common.{◌≡◌, ◌∙◌, ℕ, zero, suc, ◌+◌, ◌*◌, ◌^◌, ◌<◌, ◌≤◌, ◌==◌, Bool, true, false, ◌&&◌, List, [], ◌∷◌}
+use Rattle.std.proofs.Common.{◌≡◌, ◌∙◌, ℕ, suc, ◌+◌, ◌*◌, ◌^◌, ◌<◌, ◌≤◌, ◌==◌, Bool, true, false, List, [], ◌∷◌}
 use Rattle.std.proofs.Common.{length, map, take, get_or, Option, Some, None, Bor, refl, sym, ap, arith}
-use Rattle.std.specs.Prelude.{nat_lt, nat_eq, slice_get, option_copied, option_and_then, IsSome, if◌then◌else◌}
+use Rattle.std.specs.Prelude.{nat_eq, slice_get, option_copied, option_and_then, IsSome, if◌then◌else◌}
 use Rattle.std.specs.Map.{lookup}
-use Rattle.std.proofs.lemmas.Bool.{lt-ltb, le-ltb, eqb-true, eq-eqb}
-use Rattle.std.proofs.lemmas.List.{take_more}
-use Rattle.std.proofs.lemmas.List.Folds.{list_all-append}
-use Rattle.std.proofs.lemmas.List.Sums.{fold-append}
+use Rattle.std.proofs.lemmas.Bool.{eqb-true, eq-eqb}
 use Rattle.std.proofs.Math.Nat.{mul-le-mul_right, pow-le-pow_right, pow-suc, add-mul}
 use Rattle.sequence.proofs.Booleans.{same_tests}
 use Rattle.tsl_terms.specs.Value.{beside}
@@ -30,33 +27,13 @@ step_within domain xs i d place within value h =
     let next : domain ^ (i + 1) ≡ domain ^ suc i = ap (λ n. domain ^ n) (omega arith) in
     omega (arith, more, power, wide, next, value)
 
-pub step_bound : (domain : ℕ) (xs : List ℕ) (i : ℕ) → i < length xs → 0 < domain → domain ^ (i + 1) ≤ domain ^ length xs
-step_bound domain xs i within some = pow-le-pow_right some (omega (arith, within))
-
-pub placed_step : (domain : ℕ) (xs : List ℕ) (i d place : ℕ) → i < length xs → get_or xs i d < domain → PlacedUpTo domain xs i place →
-    PlacedUpTo domain xs (i + 1) (place * domain + get_or xs i d)
-placed_step domain xs i d place within value h = record {
-  values = rw (
-    take_more xs i d within,
-    list_all-append (λ v. nat_lt v domain) (take i xs) (get_or xs i d ∷ []),
-    h.values,
-    lt-ltb _ _ value,
-  ) refl;
-  place_is = ap (λ n. n * domain + get_or xs i d) h.place_is
-      ∙ sym (fold-append (λ n v. n * domain + v) 0 (take i xs) (get_or xs i d ∷ []))
-      ∙ sym (ap (place_of_arguments domain) (take_more xs i d within));
-  below = step_within domain xs i d place within value h;
-}
-
--- an argument that is no value
-pub no_values : (domain : ℕ) (xs : List ℕ) (i d : ℕ) → i < length xs → domain ≤ get_or xs i d → are_values domain xs ≡ false
-no_values domain [] i d within large = absurd (omega (arith, within))
-no_values domain (x ∷ xs) zero d within large = ap (λ b. b && are_values domain xs) (le-ltb _ _ large)
-no_values domain (x ∷ xs) (suc i) d within large =
-    rw (no_values domain xs i d (omega (arith, within)) large) (by (nat_lt x domain)) where
-      by : (b : Bool) → (b && false) ≡ false
-      by true = refl
-      by false = refl
+-- and it fits, where the table's size does
+pub step_fits : (domain : ℕ) (xs : List ℕ) (i d place : ℕ) → i < length xs → get_or xs i d < domain → PlacedUpTo domain xs i place →
+    domain ^ length xs < 2 ^ 64 → place * domain + get_or xs i d < 2 ^ 64
+step_fits domain xs i d place within value h small =
+    let some : 0 < domain = omega (arith, value) in
+    let bound : domain ^ (i + 1) ≤ domain ^ length xs = pow-le-pow_right some (omega (arith, within)) in
+    omega (arith, step_within domain xs i d place within value h, bound, small)
 
 -- ---- the entry
 

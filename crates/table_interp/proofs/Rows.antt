@@ -3,7 +3,7 @@ use Rattle.std.proofs.Common.{◌≡◌, ◌∙◌, ℕ, zero, suc, ◌+◌, ◌
 use Rattle.std.proofs.Common.{Vec, Some, None, refl, sym, ap, subst, arith, inl, inr}
 use Rattle.std.specs.Prelude.{slice_get, option_map, is_some, All, ◌⊎◌}
 use Rattle.std.proofs.lemmas.List.Elements.{All-from_recursion, recursion_from_All}
-use Rattle.sequence.proofs.Finds.{find_image_end, find_item_past, each_fails, find_neither}
+use Rattle.sequence.proofs.Finds.{find_item_past, each_fails, find_neither}
 use Rattle.sequence.proofs.Options.{none_is}
 use Rattle.tsl_terms.specs.Value.{beside}
 use Rattle.sequence.specs.Options.{all_there}
@@ -12,20 +12,16 @@ use Rattle.std.specs.List.{find, AllByRecursion}
 use Rattle.std.specs.declared.alloc.Global.{Global}
 use Rattle.std.proofs.lemmas.Bool.{cases_lt, eqb-true}
 use Rattle.std.proofs.lemmas.List.{length-map, map-append, take_more}
-use Rattle.sequence.proofs.Each.{each_at, each_weaker}
-use Rattle.std.proofs.lemmas.Option.{none-some, same_Some, slice_get-get_or, slice_get-map, slice_get_within}
+use Rattle.sequence.proofs.Each.{each_at, each_weaker, each_left, each_right}
+use Rattle.std.proofs.lemmas.Option.{none-some, same_Some, slice_get-get_or, slice_get-map}
 use Rattle.sequence.proofs.Booleans.{eqb_self}
 use Rattle.entry_names.specs.Needed.{HasNoRepeat}
 use Rattle.table_interp.specs.Inputs.{IsFirstAt}
-use Rattle.sequence.proofs.Places.{slice_get-front}
 use Rattle.table_syntax.specs.View.{numbers_view}
 use Rattle.table_interp.proofs.Facts.{below_each}
 
 abbrev Row : Type 0
 Row = Vec ℕ Global
-
-items_of : Row → List ℕ
-items_of r = r.items
 
 -- none of the rows so far passes
 pub record NoneSoFar (test : List ℕ → Bool) (rows : List Row) (i : ℕ) : Type 0 where
@@ -36,9 +32,6 @@ there : (rows : List Row) (i : ℕ) (row : Row) → i < length rows → row ≡ 
 there rows i row within is =
     slice_get-map (λ r. r.items) rows i
     ∙ ap (option_map (λ r. r.items)) (slice_get-get_or rows i row within ∙ ap (λ r. Some r) (sym is))
-
-pub none_at_first : (test : List ℕ → Bool) (rows : List Row) → NoneSoFar test rows 0
-none_at_first test rows = record { first = refl; none = λ k x less at. absurd (omega (arith, less)) }
 
 pub none_more : (test : List ℕ → Bool) (rows : List Row) (i : ℕ) (row : Row) → i < length rows → row ≡ get_or rows i row →
     test row.items ≡ false → NoneSoFar test rows i → NoneSoFar test rows (i + 1)
@@ -56,28 +49,9 @@ none_more test rows i row within is fails h = record {
         ∙ ap (slice_get (numbers_view rows)) (sym same) ∙ at) in
         ap test (sym found) ∙ fails
 
-pub none_left : (test : List ℕ → Bool) (rows : List Row) (i : ℕ) → length rows ≤ i → NoneSoFar test rows i →
-    find test (numbers_view rows) ≡ None
-none_left test rows i past h = h.first ∙ find_image_end (λ r. r.items) test rows i past
-
-pub first_at : (test : List ℕ → Bool) (rows : List Row) (i : ℕ) (row : Row) → i < length rows → row ≡ get_or rows i row →
-    test row.items ≡ true → NoneSoFar test rows i → IsFirstAt test (numbers_view rows) i
-first_at test rows i row within is passed h =
-    record { member = row.items; there = there rows i row within is; passed = passed; none_before = h.none }
-
 -- ---- rows of the stem, and then of the cycle
 
 module _ (test : List ℕ → Bool) where
-  pub first_left : (xs ys : List (List ℕ)) (at : ℕ) → IsFirstAt test xs at → IsFirstAt test (xs ++ ys) at
-  first_left xs ys at h =
-      let inside : at < length xs = slice_get_within xs at h.member h.there in
-      record {
-        member = h.member;
-        there = slice_get-front xs ys at inside ∙ h.there;
-        passed = h.passed;
-        none_before = λ i x less found. h.none_before i x less (sym (slice_get-front xs ys i (omega (arith, less, inside))) ∙ found);
-      }
-
   pub first_right : (xs ys : List (List ℕ)) (at : ℕ) → find test xs ≡ None → IsFirstAt test ys at →
       IsFirstAt test (xs ++ ys) (length xs + at)
   first_right [] ys at none h = record {
@@ -191,10 +165,17 @@ rows_below domain rows h =
     (λ r e. below_each domain r (none_is (find (is_no_value domain) r) e)) rows
     (each_fails (λ r. is_some (find (is_no_value domain) r)) rows h)
 
-pub rows_small : (domain : ℕ) → domain < 2 ^ 32 → (rows : List (List ℕ)) → AllByRecursion (λ r. AllByRecursion (λ v. v < domain) r) rows →
-    All (λ r. All (λ v. v < 2 ^ 32) r) rows
-rows_small domain low rows h =
-    All-from_recursion (λ r. All (λ v. v < 2 ^ 32) r) rows
-    (each_weaker (λ r. AllByRecursion (λ v. v < domain) r) (λ r. All (λ v. v < 2 ^ 32) r)
-    (λ r each. All-from_recursion (λ v. v < 2 ^ 32) r
-    (each_weaker (λ v. v < domain) (λ v. v < 2 ^ 32) (λ v less. omega (arith, low, less)) r each)) rows h)
+module _ (domain : ℕ) (low : domain < 2 ^ 32) (stem cycle : List (List ℕ))
+    (h : find (λ r. is_some (find (is_no_value domain) r)) (stem ++ cycle) ≡ None) where
+  all_small : AllByRecursion (λ r. All (λ v. v < 2 ^ 32) r) (stem ++ cycle)
+  all_small =
+      each_weaker (λ r. AllByRecursion (λ v. v < domain) r) (λ r. All (λ v. v < 2 ^ 32) r)
+      (λ r each. All-from_recursion (λ v. v < 2 ^ 32) r
+      (each_weaker (λ v. v < domain) (λ v. v < 2 ^ 32) (λ v less. omega (arith, low, less)) r each)) (stem ++ cycle)
+      (rows_below domain (stem ++ cycle) h)
+
+  pub stem_small : All (λ r. All (λ v. v < 2 ^ 32) r) stem
+  stem_small = All-from_recursion _ stem (each_left _ stem cycle all_small)
+
+  pub cycle_small : All (λ r. All (λ v. v < 2 ^ 32) r) cycle
+  cycle_small = All-from_recursion _ cycle (each_right _ stem cycle all_small)

@@ -2,3 +2,4 @@ pub mod Texts
 pub mod Located
 pub mod Lacks
 pub mod Ordered
+pub mod Rules

@@ -297,6 +297,7 @@ fn initial_of(alloc: Global, given: &Located, cells: &[u32]) -> Result<Vec<u32>,
 }
 
 /// The interpretation that the entries of a text give for the names and the cells.
+#[tactic(auto, using(entry_names::proofs::NeededNames::cells_within, crate::proofs::Facts::paired, crate::proofs::Facts::small_table))]
 pub(crate) fn tables_from(
     alloc: Global,
     names: &Names,

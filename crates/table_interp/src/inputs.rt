@@ -22,6 +22,7 @@ ghost use Rattle.table_interp.specs.Inputs.{
   HasRowCause,
 };
 ghost use Rattle.table_syntax.specs.View.{inputs_view, numbers_view};
+ghost use Rattle.table_interp.specs.internal.Rules.{breaks};
 ghost use Rattle.table_interp.specs.internal.Ordered.{columns_of, HavePlaces, AreOrdered};
 
 use crate::entries::first_from;
@@ -34,6 +35,7 @@ use tsl_meaning::InputLoop;
 use tsl_terms::Names;
 
 /// The place of the column for each name, where each input has one column, and there is none for another name.
+#[tactic(auto, using(entry_names::proofs::NeededNames::cells_within))]
 fn column_places(
     alloc: Global,
     names: &Names,
@@ -49,62 +51,46 @@ fn column_places(
     Ok(places)
 }
 
-/// Whether a row has another number of numbers than there are inputs.
-fn has_other_width(inputs: &[u32], row: &[u64]) -> bool
-    ensures { result ≡ has_other_width inputs.now row.now }
-{
-    row.len() != inputs.len()
+/// What each row has to keep.
+#[derive(Clone, Copy)]
+enum Rule<'a> {
+    /// It has one number for each of these inputs.
+    Width(&'a [u32]),
+    /// Each of its numbers is below this.
+    Values(u32),
 }
 
-/// The place of the first row that has another number of numbers than there are inputs.
-fn first_wide(inputs: &[u32], rows: &[Vec<u64>]) -> Option<usize>
-    ensures { MatchOption result (find (has_other_width inputs.now) (numbers_view rows.now) ≡ None)
-        (IsFirstAt (has_other_width inputs.now) (numbers_view rows.now)) }
+/// Whether a row does not keep a rule.
+fn breaks(rule: Rule, row: &[u64]) -> bool
+    ensures { result ≡ breaks rule.entry row.now }
+{
+    match rule {
+        Rule::Width(inputs) => row.len() != inputs.len(),
+        Rule::Values(domain) => first_from(u64::from(domain), row).is_some(),
+    }
+}
+
+/// The place of the first row that does not keep a rule.
+fn first_breaking(rule: Rule, rows: &[Vec<u64>]) -> Option<usize>
+    ensures { MatchOption result (find (breaks rule.entry) (numbers_view rows.now) ≡ None)
+        (IsFirstAt (breaks rule.entry) (numbers_view rows.now)) }
 {
     for (place, row) in rows.iter().enumerate() {
-        if has_other_width(inputs, row) {
+        if breaks(rule, row) {
             return Some(place);
         }
     }
     None
 }
 
-/// The place of the first row with a number that is no value.
-fn first_high(domain: u32, rows: &[Vec<u64>]) -> Option<usize>
-    ensures { MatchOption result (find (λ r. is_some (find (is_no_value domain) r)) (numbers_view rows.now) ≡ None)
-        (IsFirstAt (λ r. is_some (find (is_no_value domain) r)) (numbers_view rows.now)) }
+/// The place of the first row that does not keep a rule, those of the stem first.
+fn first_row(rule: Rule, given: &InputsText) -> Option<usize>
+    ensures { MatchOption result (find (breaks rule.entry) (all_rows (inputs_view given.now)) ≡ None)
+        (IsFirstAt (breaks rule.entry) (all_rows (inputs_view given.now))) }
 {
-    for (place, row) in rows.iter().enumerate() {
-        if first_from(u64::from(domain), row).is_some() {
-            return Some(place);
-        }
-    }
-    None
-}
-
-/// The place of the first row that has another number of numbers than there are inputs, those of the stem
-/// first.
-fn first_of_other_width(inputs: &[u32], given: &InputsText) -> Option<usize>
-    ensures { MatchOption result (find (has_other_width inputs.now) (all_rows (inputs_view given.now)) ≡ None)
-        (IsFirstAt (has_other_width inputs.now) (all_rows (inputs_view given.now))) }
-{
-    match first_wide(inputs, &given.stem) {
+    match first_breaking(rule, &given.stem) {
         Some(place) => Some(place),
-        None => match first_wide(inputs, &given.cycle) {
-            Some(place) => Some(given.stem.len() + place),
-            None => None,
-        },
-    }
-}
-
-/// The place of the first row with a number that is no value, those of the stem first.
-fn first_with_no_value(domain: u32, given: &InputsText) -> Option<usize>
-    ensures { MatchOption result (find (λ r. is_some (find (is_no_value domain) r)) (all_rows (inputs_view given.now)) ≡ None)
-        (IsFirstAt (λ r. is_some (find (is_no_value domain) r)) (all_rows (inputs_view given.now))) }
-{
-    match first_high(domain, &given.stem) {
-        Some(place) => Some(place),
-        None => match first_high(domain, &given.cycle) {
+        None => match first_breaking(rule, &given.cycle) {
             Some(place) => Some(given.stem.len() + place),
             None => None,
         },
@@ -134,7 +120,7 @@ fn check_widths(names: &Names, inputs: &[u32], given: &InputsText) -> Result<(),
     {
         return Err(InputError::Rows);
     }
-    if let Some(row) = first_of_other_width(inputs, given) {
+    if let Some(row) = first_row(Rule::Width(inputs), given) {
         return Err(InputError::Count(row as u32));
     }
     Ok(())
@@ -151,7 +137,7 @@ fn check_values(
     ensures ok { IfOk result (λ _. AreInRange names.now inputs.now (inputs_view given.now) domain) }
     ensures cause { IfErr result (HasRowCause names.now inputs.now (inputs_view given.now) domain) }
 {
-    if let Some(row) = first_with_no_value(domain, given) {
+    if let Some(row) = first_row(Rule::Values(domain), given) {
         return match first_from(u64::from(domain), row_at(given, row)) {
             Some(value) => Err(InputError::Range(row as u32, value)),
             None => Err(InputError::NoMemory),

@@ -1,9 +1,9 @@
 -- Entries that their first words decide, and whole texts of entries.
-use Rattle.std.proofs.Common.{◌≡◌, ℕ, suc, ◌≤◌, true, false, List, [], ◌∷◌, ◌++◌, refl, ap, sym, ◌∙◌}
+use Rattle.std.proofs.Common.{◌≡◌, ℕ, suc, ◌≤◌, Bool, true, false, List, [], ◌∷◌, ◌++◌, refl, ap, sym, ◌∙◌}
 use Rattle.std.proofs.lemmas.List.{append-nil}
 use Rattle.std.specs.Prelude.{Option, Some, None, option_map, option_and_then, is_some, codes}
 use Rattle.tsl_terms.specs.declared.names.NameKind.{NameKind}
-use Rattle.token_readers.specs.Readers.{Reader, value_or_wrong, taking, and_then, map_read, at_end}
+use Rattle.token_readers.specs.Readers.{Answer, Reader, value_or_wrong, taking, and_then, map_read, members, at_end}
 use Rattle.token_readers.specs.Exact.{Grammar, Before, Begins, Exact}
 use Rattle.token_readers.proofs.Runs.{exact_as}
 use Rattle.token_readers.proofs.Then.{Any}
@@ -20,7 +20,7 @@ use Rattle.token_readers.proofs.Sequels.{
   nothing_follows,
   after_one,
 }
-use Rattle.token_readers.proofs.Lists.{Member}
+use Rattle.token_readers.proofs.Lists.{AreAll, none, some, Member, members_exact}
 use Rattle.token_readers.proofs.WholeTexts.{Ends, ends_at_end, ends_map, ends_then}
 use Rattle.table_syntax.specs.Syntax.{TextToken, is_name_token, is_word, is_numeral, number_at}
 use Rattle.table_syntax.specs.internal.Reading.{word_at, numeral_at, from_one, positive_at, kind_at, member_by, headed_text}
@@ -57,12 +57,13 @@ pub record Form {T V : Type 0} (Is : Grammar T V) (ends : T → Type 0) (levels_
   pub exact : Exact Is ends levels_left reader
   pub begins : (r : ℕ) → Begins (Is r) []
 
-pub one_terminal : {T V : Type 0} (value : T → Option V) (levels_left : ℕ) → HasExample value → Form (λ r. IsOne value) Any levels_left (taking value)
+pub one_terminal : {T V : Type 0} (value : T → Option V) (levels_left : ℕ) → HasExample value →
+    Form (λ r. IsOne value) Any levels_left (taking value)
 one_terminal value levels_left e = record { exact = taken_exact value e levels_left; begins = λ r. taken_begins value e 0 }
 
 module _ {T V W : Type 0} where
-  pub mapped_form : {Is : Grammar T V} {ends : T → Type 0} {levels_left : ℕ} {reader : Reader T V} (make : V → W) → Form Is ends levels_left reader →
-      Form (IsMapped make Is) ends levels_left (λ xs. map_read make (reader xs))
+  pub mapped_form : {Is : Grammar T V} {ends : T → Type 0} {levels_left : ℕ} {reader : Reader T V} (make : V → W) →
+      Form Is ends levels_left reader → Form (IsMapped make Is) ends levels_left (λ xs. map_read make (reader xs))
   mapped_form {Is = Is} make k = record { exact = mapped_exact make k.exact; begins = λ r. mapped_begins make Is r (k.begins r) }
 
   pub then_form : {Is : List T → V → Type 0} {Next : V → Grammar T W} {ends : T → Type 0} {levels_left : ℕ} {reader : Reader T V}
@@ -96,6 +97,20 @@ other_form to from weaker k = record {
     derives = to r (k.begins r).ending (k.begins r).value (k.begins r).derives;
   };
 }
+
+-- a list of members
+module _ {T V : Type 0} {Is : Grammar T V} {Are : List T → List V → Type 0} where
+  pub listed_form : Are [] [] → ((r : ℕ) (f g : List T) (v : V) (vs : List V) → Is r f v → Are g vs → Are (f ++ g) (v ∷ vs)) →
+      ((r : ℕ) (xs : List T) (vs : List V) → Are xs vs → AreAll Is r xs vs) →
+      {each ends : T → Type 0} {levels_left : ℕ} {member : List T → Option (Answer T V)} {starts : T → Bool} {reader : Reader T V} →
+      Member Is each ends levels_left member starts reader → Form (λ r. Are) ends levels_left (members member)
+  listed_form nothing more all k = record {
+    exact = exact_as are all (λ x e. e) (members_exact k);
+    begins = λ r. record { ending = []; value = []; derives = nothing };
+  } where
+    are : (r : ℕ) (xs : List T) (vs : List V) → AreAll Is r xs vs → Are xs vs
+    are r xs vs none = nothing
+    are r xs vs (some {f = f} {g = g} {v = v} {vs = ws} h rest) = more r f g v ws h (are r g ws rest)
 
 -- ---- entries
 
@@ -152,59 +167,30 @@ IsHeaded head word Are made =
     Then (IsOne (word_at head)) (λ _. Then (IsOne (numeral_at (codes "1"))) (λ _. Then (IsOne (word_at word)) (λ _.
     Then (IsOne positive_at) (λ n. Then Are (λ es. IsMapped (λ _. made n es) IsEnd)))))
 
--- the same by its parts
-pub record HeadedParts {E V : Type 0} (head word : List ℕ) (Are : List TextToken → List E → Type 0) (made : ℕ → List E → V)
-    (xs : List TextToken) (v : V) : Type 0 where
-  pub first : TextToken
-  pub one : TextToken
-  pub second : TextToken
-  pub digits : TextToken
-  pub number : ℕ
-  pub tail : List TextToken
-  pub entries : List E
-  pub split : xs ≡ first ∷ one ∷ second ∷ digits ∷ tail
-  pub is_first : is_word head first ≡ true
-  pub is_one : is_numeral (codes "1") one ≡ true
-  pub is_second : is_word word second ≡ true
-  pub is_number : number_at digits ≡ Some number
-  pub some : 1 ≤ number
-  pub derived : Are tail entries
-  pub is : v ≡ made number entries
-
-module _ {E V : Type 0} {head word : List ℕ} {Are : List TextToken → List E → Type 0} {made : ℕ → List E → V} where
-  pub parts_of : (r : ℕ) (xs : List TextToken) (v : V) → IsHeaded head word Are made r xs v → HeadedParts head word Are made xs v
-  parts_of r xs v a =
+module _ {E V : Type 0} {head word : List ℕ} {Are : List TextToken → List E → Type 0} {made : ℕ → List E → V}
+    (Is : List TextToken → V → Type 0)
+    (build : (xs : List TextToken) (es : List E) (a b c d : TextToken) (n : ℕ) → is_word head a ≡ true → is_numeral (codes "1") b ≡ true →
+    is_word word c ≡ true → number_at d ≡ Some n → 1 ≤ n → Are xs es → Is (a ∷ b ∷ c ∷ d ∷ xs) (made n es)) where
+  -- such a text, by its parts
+  pub built : (r : ℕ) (xs : List TextToken) (v : V) → IsHeaded head word Are made r xs v → Is xs v
+  built r xs v a =
       let b = a.second in
       let c = b.second in
       let d = c.second in
       let e = d.second in
       let positive = from_one_is (number_at d.first.0) d.value d.first.2 in
       let tail : d.tail ≡ e.front = e.split ∙ ap (λ ys. e.front ++ ys) e.second.1 ∙ append-nil e.front in
-      record {
-        first = a.first.0;
-        one = b.first.0;
-        second = c.first.0;
-        digits = d.first.0;
-        number = d.value;
-        tail = e.front;
-        entries = e.value;
-        split = after_one a ∙ ap (λ ys. a.first.0 ∷ ys) (after_one b ∙ ap (λ ys. b.first.0 ∷ ys) (after_one c
-            ∙ ap (λ ys. c.first.0 ∷ ys) (after_one d ∙ ap (λ ys. d.first.0 ∷ ys) tail)));
-        is_first = word_is head a.first.0 a.first.2;
-        is_one = numeral_is (codes "1") b.first.0 b.first.2;
-        is_second = word_is word c.first.0 c.first.2;
-        is_number = positive.0;
-        some = positive.1;
-        derived = e.first;
-        is = e.second.2;
-      }
+      rw (after_one a, after_one b, after_one c, after_one d, tail, e.second.2)
+      (build e.front e.value a.first.0 b.first.0 c.first.0 d.first.0 d.value (word_is head a.first.0 a.first.2)
+      (numeral_is (codes "1") b.first.0 b.first.2) (word_is word c.first.0 c.first.2) positive.0 positive.1 e.first)
 
+module _ {E V : Type 0} {head word : List ℕ} {Are : List TextToken → List E → Type 0} {made : ℕ → List E → V} where
   pub of_parts : {xs : List TextToken} (es : List E) (r : ℕ) (a b c d : TextToken) (n : ℕ) → is_word head a ≡ true →
       is_numeral (codes "1") b ≡ true → is_word word c ≡ true → number_at d ≡ Some n → 1 ≤ n → Are xs es →
       IsHeaded head word Are made r (a ∷ b ∷ c ∷ d ∷ xs) (made n es)
-  of_parts {xs = xs} es r a b c d n first one second number some entries =
+  of_parts {xs = xs} es r a b c d n first one second number positive entries =
       one_then a (word_taken head a first) (one_then b (numeral_taken (codes "1") b one) (one_then c (word_taken word c second)
-      (one_then d (ap (option_and_then from_one) number ∙ from_one_taken n some) (record {
+      (one_then d (ap (option_and_then from_one) number ∙ from_one_taken n positive) (record {
         value = es;
         front = xs;
         tail = [];
@@ -221,8 +207,10 @@ module _ {E V : Type 0} {head word : List ℕ} (has_head : HasExample (word_at h
     (form : (levels_left : ℕ) → Form (λ r. Are) Never levels_left read) (made : ℕ → List E → V) where
   pub headed_exact : (levels_left : ℕ) → Exact (IsHeaded head word Are made) Never levels_left (headed_text head word read made)
   headed_exact levels_left =
-      (then_form (one_terminal (word_at head) levels_left has_head) (λ _. then_form (one_terminal (numeral_at (codes "1")) levels_left has_one) (λ _.
-      then_form (one_terminal (word_at word) levels_left has_second) (λ _. then_form (one_terminal positive_at levels_left has_positive) (λ n.
+      (then_form (one_terminal (word_at head) levels_left has_head) (λ _.
+      then_form (one_terminal (numeral_at (codes "1")) levels_left has_one) (λ _.
+      then_form (one_terminal (word_at word) levels_left has_second) (λ _.
+      then_form (one_terminal positive_at levels_left has_positive) (λ n.
       before_form (λ r es xs v h rest b. nothing_follows Never (λ _. made n es) r xs v h rest b) (form levels_left)
       (λ es. mapped_form (λ _. made n es) (at_the_end levels_left))))))).exact
 

@@ -12,7 +12,7 @@ use Rattle.token_readers.proofs.Terminals.{turn_of, IsAfter}
 use Rattle.token_readers.proofs.Taken.{IsOne, taken_begins, taken_exact, IsEnd, Never}
 use Rattle.token_readers.proofs.Sequels.{IsMapped, Then, nothing_follows, after_one}
 use Rattle.token_readers.proofs.Iterates.{Shrinks, step_shrinks}
-use Rattle.token_readers.proofs.Lists.{AreAll, none, some, Member, stepping, members_exact, marked_member}
+use Rattle.token_readers.proofs.Lists.{AreAll, none, some, Member, stepping, marked_member}
 use Rattle.table_syntax.specs.Syntax.{TextToken, is_word, number_at, Entry, TablesSyntax, InputsSyntax}
 use Rattle.table_syntax.specs.Grammar.{
   AreNumbers,
@@ -64,8 +64,8 @@ use Rattle.table_syntax.specs.internal.Reading.{
 use Rattle.table_syntax.proofs.Terminals.{word_is, word_taken, numeral_is, numeral_taken, name_is, name_taken, symbol_is, symbol_taken}
 use Rattle.table_syntax.proofs.Terminals.{words_differ, word_is_name, name_no_number, word_of_kind, kind_is, kind_taken, name_example}
 use Rattle.table_syntax.proofs.Terminals.{has_number, has_name, has_symbol, has_word, has_one}
-use Rattle.table_syntax.proofs.Entries.{then_of, one_then, elsewhere, Form, one_terminal, mapped_form, then_form, before_form, other_form}
-use Rattle.table_syntax.proofs.Entries.{IsByKind, by_kind, IsHeaded, HeadedParts, parts_of, of_parts, at_the_end, headed_exact}
+use Rattle.table_syntax.proofs.Entries.{then_of, one_then, elsewhere, Form, one_terminal, mapped_form, then_form, before_form, other_form, listed_form}
+use Rattle.table_syntax.proofs.Entries.{IsByKind, by_kind, IsHeaded, built, of_parts, at_the_end, headed_exact}
 
 -- ---- numbers
 
@@ -79,7 +79,8 @@ NoNumber x = number_at x ≡ None
 pub number_exact : (levels_left : ℕ) → Exact (λ r. IsNumber) Any levels_left (taking number_at)
 number_exact levels_left = taken_exact number_at has_number levels_left
 
-number_members : (levels_left : ℕ) → Member (λ r. IsNumber) Any NoNumber levels_left number_member (λ x. is_some (number_at x)) (taking number_at)
+number_members : (levels_left : ℕ) →
+    Member (λ r. IsNumber) Any NoNumber levels_left number_member (λ x. is_some (number_at x)) (taking number_at)
 unfolding taking
 number_members levels_left = record {
   at_end = refl;
@@ -105,17 +106,14 @@ number_members levels_left = record {
       (x : TextToken) × (ys : List TextToken) × (xs ≡ x ∷ ys) × (is_some (number_at x) ≡ true)
   begins r xs n h = (h.0, [], h.1, ap is_some h.2)
 
-are_numbers : (r : ℕ) (xs : List TextToken) (ns : List ℕ) → AreAll (λ r. IsNumber) r xs ns → AreNumbers xs ns
-are_numbers r xs ns none = no_number
-are_numbers r xs ns (some {g = g} {v = n} {vs = ms} h rest) = rw h.1 (more_numbers h.0 n h.2 (are_numbers r g ms rest))
-
 all_numbers : (r : ℕ) (xs : List TextToken) (ns : List ℕ) → AreNumbers xs ns → AreAll (λ r. IsNumber) r xs ns
 all_numbers r xs ns no_number = none
 all_numbers r xs ns (more_numbers {xs = ys} {ns = ms} x n e h) = some {f = x ∷ []} (x, refl, e) (all_numbers r ys ms h)
 
-pub numbers_exact : (levels_left : ℕ) → Exact (λ r. AreNumbers) NoNumber levels_left numbers
+numbers_form : (levels_left : ℕ) → Form (λ r. AreNumbers) NoNumber levels_left numbers
 unfolding numbers
-numbers_exact levels_left = exact_as are_numbers all_numbers (λ x e. e) (members_exact (number_members levels_left))
+numbers_form levels_left =
+    listed_form no_number (λ r f g n ns h rest. rw h.1 (more_numbers h.0 n h.2 rest)) all_numbers (number_members levels_left)
 
 pub numbers_shrink : Shrinks (push number_member)
 numbers_shrink = step_shrinks (stepping (number_members 0))
@@ -125,28 +123,23 @@ numbers_shrink = step_shrinks (stepping (number_members 0))
 -- an entry after its first word
 abbrev IsForm : NameKind → Grammar TextToken Entry
 IsForm Signal = Then (IsOne name_at) (λ name. IsMapped (λ n. entry_made Signal name (n ∷ [])) (λ r. IsNumber))
-IsForm Function = Then (IsOne symbol_at) (λ name. IsMapped (entry_made Function name) (λ r. AreNumbers))
-IsForm Predicate = Then (IsOne symbol_at) (λ name. IsMapped (entry_made Predicate name) (λ r. AreNumbers))
+IsForm kind = Then (IsOne symbol_at) (λ name. IsMapped (entry_made kind name) (λ r. AreNumbers))
 
 pub number_form : (levels_left : ℕ) → Form (λ r. IsNumber) Any levels_left (taking number_at)
 number_form levels_left = one_terminal number_at levels_left has_number
-
-numbers_form : (levels_left : ℕ) → Form (λ r. AreNumbers) NoNumber levels_left numbers
-numbers_form levels_left = record { exact = numbers_exact levels_left; begins = λ r. record { ending = []; value = []; derives = no_number } }
 
 form : (kind : NameKind) (levels_left : ℕ) → Form (IsForm kind) NoNumber levels_left (entry_of_kind kind)
 unfolding entry_of_kind
 form Signal levels_left =
     then_form (one_terminal name_at levels_left has_name)
-    (λ name. other_form (λ r xs v h. h) (λ r xs v h. h) (λ x e. tt) (mapped_form (λ n. entry_made Signal name (n ∷ [])) (number_form levels_left)))
-form Function levels_left = then_form (one_terminal symbol_at levels_left has_symbol) (λ name. mapped_form (entry_made Function name) (numbers_form levels_left))
-form Predicate levels_left =
-    then_form (one_terminal symbol_at levels_left has_symbol) (λ name. mapped_form (entry_made Predicate name) (numbers_form levels_left))
+    (λ name. other_form (λ r xs v h. h) (λ r xs v h. h) (λ x e. tt)
+    (mapped_form (λ n. entry_made Signal name (n ∷ [])) (number_form levels_left)))
+form kind levels_left =
+    then_form (one_terminal symbol_at levels_left has_symbol) (λ name. mapped_form (entry_made kind name) (numbers_form levels_left))
 
 lift_form : (kind : NameKind) (r : ℕ) (xs : List TextToken) (e : Entry) → IsForm kind r xs e → IsForm kind (suc (suc r)) xs e
 lift_form Signal r xs e h = elsewhere (λ v ys k. k) h
-lift_form Function r xs e h = elsewhere (λ v ys k. k) h
-lift_form Predicate r xs e h = elsewhere (λ v ys k. k) h
+lift_form kind r xs e h = elsewhere (λ v ys k. k) h
 
 entry_members : (levels_left : ℕ) → Member (IsByKind IsForm) NoNumber Never levels_left entry_member (λ x. is_some (kind_at x))
     (λ xs. and_then (taking kind_at xs) entry_of_kind)
@@ -176,17 +169,14 @@ is_entry r xs e (predicate {ns = ns} x y word name h) =
 is_entry r xs e (cell x y z n word name number) =
     one_then x (kind_taken x Signal word) (one_then y (name_taken y name) (n, (z, refl, number), refl))
 
-are_entries : (r : ℕ) (xs : List TextToken) (es : List Entry) → AreAll (IsByKind IsForm) r xs es → AreEntries xs es
-are_entries r xs es none = no_entry
-are_entries r xs es (some {f = f} {g = g} {v = e} {vs = ds} h rest) = more_entries (entry_is r f e h) (are_entries r g ds rest)
-
 all_entries : (r : ℕ) (xs : List TextToken) (es : List Entry) → AreEntries xs es → AreAll (IsByKind IsForm) r xs es
 all_entries r xs es no_entry = none
 all_entries r xs es (more_entries {xs = ys} {ys = zs} {e = e} {es = ds} h rest) = some (is_entry r ys e h) (all_entries r zs ds rest)
 
-pub entries_exact : (levels_left : ℕ) → Exact (λ r. AreEntries) Never levels_left entries
+entries_form : (levels_left : ℕ) → Form (λ r. AreEntries) Never levels_left entries
 unfolding entries
-entries_exact levels_left = exact_as are_entries all_entries (λ x e. e) (members_exact (entry_members levels_left))
+entries_form levels_left =
+    listed_form no_entry (λ r f g e es h rest. more_entries (entry_is r f e h) rest) all_entries (entry_members levels_left)
 
 pub entries_shrink : Shrinks (push entry_member)
 entries_shrink = step_shrinks (stepping (entry_members 0))
@@ -212,22 +202,22 @@ column_members levels_left =
     (λ x rest e. ap (option_map (taking name_at)) (after_some (codes "input") x rest e)) (λ x e. tt) (λ x e. e) (λ x e. tt)
     (taken_exact name_at has_name levels_left)
 
-are_columns : (r : ℕ) (xs ns : List TextToken) → AreAll (IsAfter (is_word (codes "input")) (λ r. IsOne name_at)) r xs ns → AreColumns xs ns
-are_columns r xs ns none = no_column
-are_columns r xs ns (some {f = []} {g = g} {v = n} {vs = ms} h rest) = absurd h
-are_columns r xs ns (some {f = x ∷ ys} {g = g} {v = n} {vs = ms} h rest) =
+more_of_columns : (r : ℕ) (f g : List TextToken) (n : TextToken) (ns : List TextToken) →
+    IsAfter (is_word (codes "input")) (λ r. IsOne name_at) r f n → AreColumns g ns → AreColumns (f ++ g) (n ∷ ns)
+more_of_columns r [] g n ns h rest = absurd h
+more_of_columns r (x ∷ ys) g n ns h rest =
     let name = name_is h.1.0 n h.1.2 in
     let split : ys ≡ n ∷ [] = h.1.1 ∙ ap (λ y. y ∷ []) (sym name.1) in
-    rw split (more_columns x n h.0 (rw name.1 name.0) (are_columns r g ms rest))
+    rw split (more_columns x n h.0 (rw name.1 name.0) rest)
 
 all_columns : (r : ℕ) (xs ns : List TextToken) → AreColumns xs ns → AreAll (IsAfter (is_word (codes "input")) (λ r. IsOne name_at)) r xs ns
 all_columns r xs ns no_column = none
 all_columns r xs ns (more_columns {xs = ys} {ns = ms} x y word name h) =
     some {f = x ∷ y ∷ []} (word, (y, refl, name_taken y name)) (all_columns r ys ms h)
 
-pub columns_exact : (levels_left : ℕ) → Exact (λ r. AreColumns) (NoWord (codes "input")) levels_left columns
+columns_form : (levels_left : ℕ) → Form (λ r. AreColumns) (NoWord (codes "input")) levels_left columns
 unfolding columns
-columns_exact levels_left = exact_as are_columns all_columns (λ x e. e) (members_exact (column_members levels_left))
+columns_form levels_left = listed_form no_column more_of_columns all_columns (column_members levels_left)
 
 pub columns_shrink : Shrinks (push column_member)
 columns_shrink = step_shrinks (stepping (column_members 0))
@@ -242,22 +232,21 @@ row_members levels_left =
     marked_member (is_word (codes "row")) (name_example (codes "row")) refl ((numbers_form 0).begins 0) (λ r xs v h. h) refl
     (λ x rest e. ap (option_map numbers) (after_none (codes "row") x rest e))
     (λ x rest e. ap (option_map numbers) (after_some (codes "row") x rest e)) (λ x e. name_no_number x (word_is_name (codes "row") x e))
-    (λ x e. e.0) (λ x e. e.1) (numbers_exact levels_left)
+    (λ x e. e.0) (λ x e. e.1) (numbers_form levels_left).exact
 
-are_rows : (r : ℕ) (xs : List TextToken) (ns : List (List ℕ)) → AreAll (IsAfter (is_word (codes "row")) (λ r. AreNumbers)) r xs ns →
-    AreRows xs ns
-are_rows r xs ns none = no_row
-are_rows r xs ns (some {f = []} {g = g} {v = n} {vs = ms} h rest) = absurd h
-are_rows r xs ns (some {f = x ∷ ys} {g = g} {v = n} {vs = ms} h rest) = more_rows x h.0 h.1 (are_rows r g ms rest)
+more_of_rows : (r : ℕ) (f g : List TextToken) (n : List ℕ) (ns : List (List ℕ)) → IsAfter (is_word (codes "row")) (λ r. AreNumbers) r f n →
+    AreRows g ns → AreRows (f ++ g) (n ∷ ns)
+more_of_rows r [] g n ns h rest = absurd h
+more_of_rows r (x ∷ ys) g n ns h rest = more_rows x h.0 h.1 rest
 
 all_rows : (r : ℕ) (xs : List TextToken) (ns : List (List ℕ)) → AreRows xs ns →
     AreAll (IsAfter (is_word (codes "row")) (λ r. AreNumbers)) r xs ns
 all_rows r xs ns no_row = none
 all_rows r xs ns (more_rows {xs = ys} {ys = zs} {ns = n} {rows = ms} x word h rest) = some {f = x ∷ ys} (word, h) (all_rows r zs ms rest)
 
-pub rows_exact : (levels_left : ℕ) → Exact (λ r. AreRows) NoRow levels_left rows
+rows_form : (levels_left : ℕ) → Form (λ r. AreRows) NoRow levels_left rows
 unfolding rows
-rows_exact levels_left = exact_as are_rows all_rows (λ x e. e) (members_exact (row_members levels_left))
+rows_form levels_left = listed_form no_row more_of_rows all_rows (row_members levels_left)
 
 pub rows_shrink : Shrinks (push row_member)
 rows_shrink = step_shrinks (stepping (row_members 0))
@@ -267,21 +256,20 @@ IsRow = Then (IsOne (word_at (codes "row"))) (λ _ r. AreNumbers)
 
 row_form : (levels_left : ℕ) → Form IsRow NoNumber levels_left row
 unfolding row
-row_form levels_left = then_form (one_terminal (word_at (codes "row")) levels_left (has_word (codes "row") refl)) (λ v. numbers_form levels_left)
-
-rows_form : (levels_left : ℕ) → Form (λ r. AreRows) NoRow levels_left rows
-rows_form levels_left = record { exact = rows_exact levels_left; begins = λ r. record { ending = []; value = []; derives = no_row } }
+row_form levels_left =
+    then_form (one_terminal (word_at (codes "row")) levels_left (has_word (codes "row") refl)) (λ v. numbers_form levels_left)
 
 -- a row and further rows
-abbrev AreSome : Grammar TextToken (List (List ℕ))
-AreSome = Then (IsRow 0) (λ first. IsMapped (λ rest. first ∷ rest) (λ r. AreRows))
+abbrev AreSome : List TextToken → List (List ℕ) → Type 0
+AreSome = Then (IsRow 0) (λ first. IsMapped (λ rest. first ∷ rest) (λ r. AreRows)) 0
 
-some_form : (levels_left : ℕ) → Form AreSome NoRow levels_left some_rows
+some_rows_form : (levels_left : ℕ) → Form (λ r. AreSome) Never levels_left some_rows
 unfolding some_rows
-some_form levels_left =
-    before_form follow
+some_rows_form levels_left =
+    other_form (λ r xs ns h. elsewhere (λ v ys k. k) h) (λ r xs ns h. elsewhere (λ v ys k. k) h) (λ x e. absurd e)
+    (before_form follow
     (other_form (λ r xs ns h. elsewhere (λ v ys k. k) h) (λ r xs ns h. elsewhere (λ v ys k. k) h) (λ x e. e) (row_form levels_left))
-    (λ first. mapped_form (λ rest. first ∷ rest) (rows_form levels_left))
+    (λ first. mapped_form (λ rest. first ∷ rest) (rows_form levels_left)))
   where
     before : (xs rest : List TextToken) (ns : List (List ℕ)) → AreRows xs ns → Before NoRow rest → Before NoNumber (xs ++ rest)
     before xs [] ns no_row b = tt
@@ -293,11 +281,11 @@ some_form levels_left =
         Before NoNumber (xs ++ rest)
     follow r first xs ns h rest b = before xs rest h.0 h.1 b
 
-row_rows : (xs : List TextToken) (first : List ℕ) (rest : List (List ℕ)) → AreRows xs (first ∷ rest) → AreSome 0 xs (first ∷ rest)
+row_rows : (xs : List TextToken) (first : List ℕ) (rest : List (List ℕ)) → AreRows xs (first ∷ rest) → AreSome xs (first ∷ rest)
 row_rows xs first rest (more_rows {xs = ys} x word h more) =
     then_of (x ∷ ys) _ _ (one_then x (word_taken (codes "row") x word) h) (rest, more, refl)
 
-rows_row : (xs : List TextToken) (ns : List (List ℕ)) → AreSome 0 xs ns →
+rows_row : (xs : List TextToken) (ns : List (List ℕ)) → AreSome xs ns →
     (first : List ℕ) × (rest : List (List ℕ)) × (ns ≡ first ∷ rest) × AreRows xs (first ∷ rest)
 rows_row xs ns h =
     let front : h.front ≡ h.first.first.0 ∷ h.first.tail = h.first.split ∙ ap (λ f. f ++ h.first.tail) h.first.first.1 in (
@@ -309,20 +297,8 @@ rows_row xs ns h =
 
 -- ---- whole texts
 
-entries_form : (levels_left : ℕ) → Form (λ r. AreEntries) Never levels_left entries
-entries_form levels_left = record { exact = entries_exact levels_left; begins = λ r. record { ending = []; value = []; derives = no_entry } }
-
 abbrev IsTablesText : Grammar TextToken TablesSyntax
 IsTablesText = IsHeaded (codes "tsltables") (codes "domain") AreEntries tables_made
-
-tables_by : (xs : List TextToken) (t : TablesSyntax) → HeadedParts (codes "tsltables") (codes "domain") AreEntries tables_made xs t →
-    IsTables xs t
-tables_by xs t p =
-    rw (p.split, p.is)
-    (tables p.first p.one p.second p.digits p.number p.is_first p.is_one p.is_second p.is_number p.some p.derived)
-
-is_tables : (r : ℕ) (xs : List TextToken) (t : TablesSyntax) → IsTablesText r xs t → IsTables xs t
-is_tables r xs t h = tables_by xs t (parts_of r xs t h)
 
 tables_are : (r : ℕ) (xs : List TextToken) (t : TablesSyntax) → IsTables xs t → IsTablesText r xs t
 tables_are r xs t (tables a b c d n head one word number few entries) = of_parts _ r a b c d n head one word number few entries
@@ -330,97 +306,77 @@ tables_are r xs t (tables a b c d n head one word number few entries) = of_parts
 pub tables_exact : (levels_left : ℕ) → Exact (λ r. IsTables) Never levels_left tables_text
 unfolding tables_text
 tables_exact levels_left =
-    exact_as is_tables tables_are (λ x e. e)
+    exact_as (built IsTables (λ xs es a b c d n head one word number few entries. tables a b c d n head one word number few entries))
+    tables_are (λ x e. e)
     (headed_exact (has_word (codes "tsltables") refl) (has_word (codes "domain") refl) entries_form tables_made levels_left)
 
-module _ where
-  -- a text of inputs, from its end
-  abbrev InputsEnd : List TextToken → List (List ℕ) → List (List ℕ) → Grammar TextToken InputsSyntax
-  InputsEnd ns stem cycle = IsMapped (λ _. inputs_made ns stem cycle) IsEnd
+-- a text of inputs, from its end
+abbrev InputsCycle : List TextToken → List (List ℕ) → Grammar TextToken InputsSyntax
+InputsCycle ns stem =
+    Then (IsOne (word_at (codes "cycle"))) (λ _. Then (AreSome) (λ cycle. IsMapped (λ _. inputs_made ns stem cycle) IsEnd))
 
-  abbrev InputsCycle : List TextToken → List (List ℕ) → Grammar TextToken InputsSyntax
-  InputsCycle ns stem = Then (AreSome 0) (InputsEnd ns stem)
+abbrev InputsStem : List TextToken → Grammar TextToken InputsSyntax
+InputsStem ns = Then (IsOne (word_at (codes "stem"))) (λ _. Then AreRows (InputsCycle ns))
 
-  abbrev InputsCycleWord : List TextToken → List (List ℕ) → Grammar TextToken InputsSyntax
-  InputsCycleWord ns stem = Then (IsOne (word_at (codes "cycle"))) (λ _. InputsCycle ns stem)
+abbrev InputsHead : Grammar TextToken InputsSyntax
+InputsHead = Then (IsOne (word_at (codes "tslinputs"))) (λ _. Then (IsOne (numeral_at (codes "1"))) (λ _. Then AreColumns InputsStem))
 
-  abbrev InputsStem : List TextToken → Grammar TextToken InputsSyntax
-  InputsStem ns = Then AreRows (InputsCycleWord ns)
+stem_follows : (ns : List TextToken) (r : ℕ) (xs : List TextToken) (t : InputsSyntax) → InputsStem ns r xs t →
+    (rest : List TextToken) →
+    Before Never rest → Before (NoWord (codes "input")) (xs ++ rest)
+stem_follows ns r xs t h rest b =
+    rw (after_one h) (words_differ (codes "stem") (codes "input") refl h.first.0 (word_is (codes "stem") h.first.0 h.first.2))
 
-  abbrev InputsStemWord : List TextToken → Grammar TextToken InputsSyntax
-  InputsStemWord ns = Then (IsOne (word_at (codes "stem"))) (λ _. InputsStem ns)
+cycle_follows : (ns : List TextToken) (stem : List (List ℕ)) (r : ℕ) (xs : List TextToken) (t : InputsSyntax) →
+    InputsCycle ns stem r xs t → (rest : List TextToken) → Before Never rest → Before NoRow (xs ++ rest)
+cycle_follows ns stem r xs t h rest b =
+    let word = word_is (codes "cycle") h.first.0 h.first.2 in
+    rw (after_one h) (
+      words_differ (codes "cycle") (codes "row") refl h.first.0 word,
+      name_no_number h.first.0 (word_is_name (codes "cycle") h.first.0 word),
+    )
 
-  abbrev InputsColumns : Grammar TextToken InputsSyntax
-  InputsColumns = Then AreColumns InputsStemWord
+input_head_exact : (levels_left : ℕ) → Exact InputsHead Never levels_left inputs_text
+unfolding inputs_text
+input_head_exact levels_left =
+    (then_form (one_terminal (word_at (codes "tslinputs")) levels_left (has_word (codes "tslinputs") refl)) (λ _.
+    then_form (one_terminal (numeral_at (codes "1")) levels_left has_one) (λ _.
+    before_form (λ r ns xs t h rest b. stem_follows ns r xs t h rest b) (columns_form levels_left) (λ ns.
+    then_form (one_terminal (word_at (codes "stem")) levels_left (has_word (codes "stem") refl)) (λ _.
+    before_form (λ r stem xs t h rest b. cycle_follows ns stem r xs t h rest b) (rows_form levels_left) (λ stem.
+    then_form (one_terminal (word_at (codes "cycle")) levels_left (has_word (codes "cycle") refl)) (λ _.
+    before_form (λ r cycle xs v h rest b. nothing_follows Never (λ _. inputs_made ns stem cycle) r xs v h rest b)
+    (some_rows_form levels_left)
+    (λ cycle. mapped_form (λ _. inputs_made ns stem cycle) (at_the_end levels_left))))))))).exact
 
-  abbrev InputsOne : Grammar TextToken InputsSyntax
-  InputsOne = Then (IsOne (numeral_at (codes "1"))) (λ _. InputsColumns)
+is_inputs : (r : ℕ) (xs : List TextToken) (t : InputsSyntax) → InputsHead r xs t → IsInputs xs t
+is_inputs r xs t a =
+    let b = a.second in
+    let c = b.second in
+    let s = c.second in
+    let d = s.second in
+    let e = d.second in
+    let f = e.second in
+    let cycle = rows_row f.front f.value f.first in
+    let tail : e.tail ≡ f.front = f.split ∙ ap (λ ys. f.front ++ ys) f.second.1 ∙ append-nil f.front in
+    rw (after_one a, after_one b, c.split, after_one s, d.split, after_one e, tail, f.second.2, cycle.2)
+    (inputs a.first.0 b.first.0 s.first.0 e.first.0 (word_is (codes "tslinputs") a.first.0 a.first.2)
+    (numeral_is (codes "1") b.first.0 b.first.2) c.first (word_is (codes "stem") s.first.0 s.first.2) d.first
+    (word_is (codes "cycle") e.first.0 e.first.2) cycle.3)
 
-  abbrev InputsHead : Grammar TextToken InputsSyntax
-  InputsHead = Then (IsOne (word_at (codes "tslinputs"))) (λ _. InputsOne)
+inputs_are : (r : ℕ) (xs : List TextToken) (t : InputsSyntax) → IsInputs xs t → InputsHead r xs t
+inputs_are r xs t (inputs {xs = us} {ys = vs} {zs = ws} {rows = rs} {row = first} a b s c head one columns stem_word stem_rows
+    cycle_word cycle_rows) =
+    one_then a (word_taken (codes "tslinputs") a head) (one_then b (numeral_taken (codes "1") b one) (then_of us _ _ columns
+    (one_then s (word_taken (codes "stem") s stem_word) (then_of vs _ _ stem_rows
+    (one_then c (word_taken (codes "cycle") c cycle_word) (record {
+      value = first ∷ rs;
+      front = ws;
+      tail = [];
+      split = sym (append-nil ws);
+      first = row_rows ws first rs cycle_rows;
+      second = (tt, refl, refl);
+    }))))))
 
-  columns_form : (levels_left : ℕ) → Form (λ r. AreColumns) (NoWord (codes "input")) levels_left columns
-  columns_form levels_left = record { exact = columns_exact levels_left; begins = λ r. record { ending = []; value = []; derives = no_column } }
-
-  stem_follows : (ns : List TextToken) (r : ℕ) (xs : List TextToken) (t : InputsSyntax) → InputsStemWord ns r xs t →
-      (rest : List TextToken) →
-      Before Never rest → Before (NoWord (codes "input")) (xs ++ rest)
-  stem_follows ns r xs t h rest b =
-      rw (after_one h) (words_differ (codes "stem") (codes "input") refl h.first.0 (word_is (codes "stem") h.first.0 h.first.2))
-
-  cycle_follows : (ns : List TextToken) (stem : List (List ℕ)) (r : ℕ) (xs : List TextToken) (t : InputsSyntax) →
-      InputsCycleWord ns stem r xs t → (rest : List TextToken) → Before Never rest → Before NoRow (xs ++ rest)
-  cycle_follows ns stem r xs t h rest b =
-      let word = word_is (codes "cycle") h.first.0 h.first.2 in
-      rw (after_one h) (
-        words_differ (codes "cycle") (codes "row") refl h.first.0 word,
-        name_no_number h.first.0 (word_is_name (codes "cycle") h.first.0 word),
-      )
-
-  some_rows_form : (levels_left : ℕ) → Form (λ r. AreSome 0) Never levels_left some_rows
-  some_rows_form levels_left =
-      other_form (λ r xs ns h. elsewhere (λ v ys k. k) h) (λ r xs ns h. elsewhere (λ v ys k. k) h) (λ x e. absurd e) (some_form levels_left)
-
-  input_head_exact : (levels_left : ℕ) → Exact InputsHead Never levels_left inputs_text
-  unfolding inputs_text
-  input_head_exact levels_left =
-      (then_form (one_terminal (word_at (codes "tslinputs")) levels_left (has_word (codes "tslinputs") refl)) (λ _.
-      then_form (one_terminal (numeral_at (codes "1")) levels_left has_one) (λ _.
-      before_form (λ r ns xs t h rest b. stem_follows ns r xs t h rest b) (columns_form levels_left) (λ ns.
-      then_form (one_terminal (word_at (codes "stem")) levels_left (has_word (codes "stem") refl)) (λ _.
-      before_form (λ r stem xs t h rest b. cycle_follows ns stem r xs t h rest b) (rows_form levels_left) (λ stem.
-      then_form (one_terminal (word_at (codes "cycle")) levels_left (has_word (codes "cycle") refl)) (λ _.
-      before_form (λ r cycle xs v h rest b. nothing_follows Never (λ _. inputs_made ns stem cycle) r xs v h rest b) (some_rows_form levels_left)
-      (λ cycle. mapped_form (λ _. inputs_made ns stem cycle) (at_the_end levels_left))))))))).exact
-
-  is_inputs : (r : ℕ) (xs : List TextToken) (t : InputsSyntax) → InputsHead r xs t → IsInputs xs t
-  is_inputs r xs t a =
-      let b = a.second in
-      let c = b.second in
-      let s = c.second in
-      let d = s.second in
-      let e = d.second in
-      let f = e.second in
-      let cycle = rows_row f.front f.value f.first in
-      let tail : e.tail ≡ f.front = f.split ∙ ap (λ ys. f.front ++ ys) f.second.1 ∙ append-nil f.front in
-      rw (after_one a, after_one b, c.split, after_one s, d.split, after_one e, tail, f.second.2, cycle.2)
-      (inputs a.first.0 b.first.0 s.first.0 e.first.0 (word_is (codes "tslinputs") a.first.0 a.first.2)
-      (numeral_is (codes "1") b.first.0 b.first.2) c.first (word_is (codes "stem") s.first.0 s.first.2) d.first
-      (word_is (codes "cycle") e.first.0 e.first.2) cycle.3)
-
-  inputs_are : (r : ℕ) (xs : List TextToken) (t : InputsSyntax) → IsInputs xs t → InputsHead r xs t
-  inputs_are r xs t (inputs {xs = us} {ys = vs} {zs = ws} {rows = rs} {row = first} a b s c head one columns stem_word stem_rows
-      cycle_word cycle_rows) =
-      one_then a (word_taken (codes "tslinputs") a head) (one_then b (numeral_taken (codes "1") b one) (then_of us _ _ columns
-      (one_then s (word_taken (codes "stem") s stem_word) (then_of vs _ _ stem_rows
-      (one_then c (word_taken (codes "cycle") c cycle_word) (record {
-        value = first ∷ rs;
-        front = ws;
-        tail = [];
-        split = sym (append-nil ws);
-        first = row_rows ws first rs cycle_rows;
-        second = (tt, refl, refl);
-      }))))))
-
-  pub inputs_exact : (levels_left : ℕ) → Exact (λ r. IsInputs) Never levels_left inputs_text
-  inputs_exact levels_left = exact_as is_inputs inputs_are (λ x e. e) (input_head_exact levels_left)
+pub inputs_exact : (levels_left : ℕ) → Exact (λ r. IsInputs) Never levels_left inputs_text
+inputs_exact levels_left = exact_as is_inputs inputs_are (λ x e. e) (input_head_exact levels_left)

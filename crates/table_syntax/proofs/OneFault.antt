@@ -1,7 +1,7 @@
 -- A text has one fault.
 use Rattle.std.proofs.Common.{◌≡◌, ◌∙◌, ℕ, List, [], ◌∷◌, ◌++◌, Err, refl, sym, ap, subst, inl, inr, append_assoc}
 use Rattle.std.specs.Prelude.{◌≢◌}
-use Rattle.std.proofs.lemmas.List.{map-append}
+use Rattle.std.proofs.lemmas.List.{map-append, append-nil}
 use Rattle.sequence.proofs.Lists.{heads, tails}
 use Rattle.tsl_text.specs.declared.Token.{Token}
 use Rattle.tsl_text.specs.declared.TextError.{TextError}
@@ -12,7 +12,7 @@ use Rattle.table_syntax.specs.Syntax.{TextToken, text_token_at, text_tokens}
 use Rattle.table_syntax.specs.Forms.{IsRead, SomeTextBegins, HasFormFault, HasTextFault}
 use Rattle.table_syntax.specs.declared.forms.TextFault.{TextFault}
 use Rattle.table_syntax.specs.declared.forms.TextFault.TheVariants as fault
-use Rattle.table_syntax.proofs.Readings.{one_list, no_tokens, form_refuses}
+use Rattle.table_syntax.proofs.Readings.{one_list, no_tokens}
 
 -- ---- the first member with which no list of a kind begins
 
@@ -52,6 +52,13 @@ module _ {V : Type 0} (Is : List TextToken → V → Type 0) (text : List ℕ) w
       one_list text tokens (before ++ token ∷ after) are k ∙ sym (append_assoc before (token ∷ []) after) in
       stops (shorter (before ++ token ∷ []) after (subst (λ ts. SomeTextBegins Is (text_tokens text ts)) same begins))
 
+  -- a fault of the form leaves nothing
+  form_refuses : (at : ℕ) → HasFormFault Is text at → (v : V) → IsRead Is text v → ⊥
+  form_refuses at (inl h) v k =
+      no_stop k.tokens h.before h.token h.after k.tokens_are h.tokens_are ([], v, rw append-nil k.derived) (λ b. h.stops b.0 b.1 b.2)
+  form_refuses at (inr h) v k =
+      h.no_text v (subst (λ tokens. Is (text_tokens text tokens) v) (one_list text k.tokens h.tokens k.tokens_are h.tokens_are) k.derived)
+
   pub one_form : (x y : ℕ) → HasFormFault Is text x → HasFormFault Is text y → x ≡ y
   one_form x y (inl h) (inl k) =
       let same = one_stop (λ ts. SomeTextBegins Is (text_tokens text ts)) shorter h.before k.before h.token k.token h.after k.after
@@ -71,6 +78,12 @@ one_text_fault text a b h k =
     let same : Err a ≡ Err b = one_answer text (Err a) (Err b) h k in
     cc
 
+-- a fault of the bytes, as it is told of a text
+abbrev told : TextError → TextFault
+told (bytes.Byte at) = fault.Byte at
+told (bytes.OpenComment at) = fault.OpenComment at
+told bytes.NoMemory = fault.NoMemory
+
 -- ---- a fault
 
 -- the tokens of a text that has a fault of its form
@@ -87,19 +100,12 @@ module _ {V : Type 0} (Is : List TextToken → V → Type 0) (text : List ℕ) w
       no_tokens text error h are.0 are.1
 
   pub one_fault : (a b : TextFault) → a ≢ fault.NoMemory → b ≢ fault.NoMemory → HasTextFault Is text a → HasTextFault Is text b → a ≡ b
-  one_fault (fault.Byte x) (fault.Byte y) m n h k =
-      let same : bytes.Byte x ≡ bytes.Byte y = one_text_fault text (bytes.Byte x) (bytes.Byte y) h k in
-      cc
-  one_fault (fault.Byte x) (fault.OpenComment y) m n h k =
-      let same : bytes.Byte x ≡ bytes.OpenComment y = one_text_fault text (bytes.Byte x) (bytes.OpenComment y) h k in
-      cc
-  one_fault (fault.Byte x) (fault.Form y) m n h k = absurd (no_form (bytes.Byte x) h y k)
-  one_fault (fault.OpenComment x) (fault.Byte y) m n h k =
-      let same : bytes.OpenComment x ≡ bytes.Byte y = one_text_fault text (bytes.OpenComment x) (bytes.Byte y) h k in
-      cc
+  one_fault (fault.Byte x) (fault.Byte y) m n h k = ap told (one_text_fault text (bytes.Byte x) (bytes.Byte y) h k)
+  one_fault (fault.Byte x) (fault.OpenComment y) m n h k = ap told (one_text_fault text (bytes.Byte x) (bytes.OpenComment y) h k)
+  one_fault (fault.OpenComment x) (fault.Byte y) m n h k = ap told (one_text_fault text (bytes.OpenComment x) (bytes.Byte y) h k)
   one_fault (fault.OpenComment x) (fault.OpenComment y) m n h k =
-      let same : bytes.OpenComment x ≡ bytes.OpenComment y = one_text_fault text (bytes.OpenComment x) (bytes.OpenComment y) h k in
-      cc
+      ap told (one_text_fault text (bytes.OpenComment x) (bytes.OpenComment y) h k)
+  one_fault (fault.Byte x) (fault.Form y) m n h k = absurd (no_form (bytes.Byte x) h y k)
   one_fault (fault.OpenComment x) (fault.Form y) m n h k = absurd (no_form (bytes.OpenComment x) h y k)
   one_fault (fault.Form x) (fault.Byte y) m n h k = absurd (no_form (bytes.Byte y) k x h)
   one_fault (fault.Form x) (fault.OpenComment y) m n h k = absurd (no_form (bytes.OpenComment y) k x h)

@@ -1,7 +1,6 @@
 -- A text derives from one thing by a grammar, and from nothing where it has a fault.
-use Rattle.std.proofs.Common.{length, ◌≡◌, ◌∙◌, ℕ, ◌<◌, ◌≤◌, List, [], ◌∷◌, ◌++◌, sym, ap, subst, inl, inr, append_assoc, arith}
+use Rattle.std.proofs.Common.{length, ◌≡◌, ℕ, ◌<◌, ◌≤◌, List, subst, arith}
 use Rattle.std.specs.Prelude.{Err, Ok}
-use Rattle.std.proofs.lemmas.List.{map-append}
 use Rattle.tsl_text.specs.declared.Token.{Token}
 use Rattle.tsl_text.specs.declared.TextError.{TextError}
 use Rattle.tsl_text.specs.Division.{AreTokens, IsAnswer}
@@ -10,9 +9,9 @@ use Rattle.token_readers.specs.Readers.{Reader}
 use Rattle.token_readers.specs.Exact.{Exact}
 use Rattle.token_readers.proofs.Whole.{one_value}
 use Rattle.token_readers.proofs.Taken.{Never}
-use Rattle.table_syntax.specs.Syntax.{TextToken, text_token_at, text_tokens, TablesSyntax, WordsSyntax, InputsSyntax}
+use Rattle.table_syntax.specs.Syntax.{TextToken, text_tokens, TablesSyntax, WordsSyntax, InputsSyntax}
 use Rattle.table_syntax.specs.Grammar.{IsTables, tables, IsWords, words, IsInputs, inputs}
-use Rattle.table_syntax.specs.Forms.{IsRead, HasFormFault}
+use Rattle.table_syntax.specs.Forms.{IsRead}
 use Rattle.table_syntax.proofs.Exactness.{tables_exact, inputs_exact}
 use Rattle.table_syntax.proofs.WordExactness.{words_exact}
 
@@ -32,21 +31,6 @@ module _ {V : Type 0} {Is : List TextToken → V → Type 0} {reader : Reader Te
   one_given text a b h k =
       let same : h.tokens ≡ k.tokens = one_list text h.tokens k.tokens h.tokens_are k.tokens_are in
       one_value exact (text_tokens text k.tokens) a b (subst (λ tokens. Is (text_tokens text tokens) a) same h.derived) k.derived
-
--- a fault of the form leaves nothing
-pub form_refuses : {V : Type 0} (Is : List TextToken → V → Type 0) (text : List ℕ) (at : ℕ) → HasFormFault Is text at → (v : V) →
-    IsRead Is text v → ⊥
-form_refuses Is text at (inl h) v k =
-    let same : k.tokens ≡ h.before ++ h.token ∷ h.after = one_list text k.tokens
-    (h.before ++ h.token ∷ h.after) k.tokens_are h.tokens_are in
-    let split : h.before ++ h.token ∷ h.after ≡ (h.before ++ h.token ∷ []) ++ h.after =
-    sym (append_assoc h.before (h.token ∷ []) h.after) in
-    let parts : text_tokens text (h.before ++ h.token ∷ h.after) ≡ text_tokens text (h.before ++ h.token ∷ []) ++ text_tokens text h.after =
-    ap (text_tokens text) split ∙ map-append (text_token_at text) (h.before ++ h.token ∷ []) h.after in
-    h.stops (text_tokens text h.after) v (subst (λ xs. Is xs v) (ap (text_tokens text) same ∙ parts) k.derived)
-form_refuses Is text at (inr h) v k =
-    let same : k.tokens ≡ h.tokens = one_list text k.tokens h.tokens k.tokens_are h.tokens_are in
-    h.no_text v (subst (λ tokens. Is (text_tokens text tokens) v) same k.derived)
 
 pub same_tables : (text : List ℕ) (a b : TablesSyntax) → IsRead IsTables text a → IsRead IsTables text b → a ≡ b
 same_tables text a b h k = one_given (tables_exact 0) text a b h k

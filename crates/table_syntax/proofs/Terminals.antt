@@ -72,22 +72,7 @@ pub name_no_number : (x : TextToken) → is_name_token x ≡ true → number_at 
 name_no_number x e = by x.token.kind e where
   by : (kind : TokenKind) → is_name_kind kind ≡ true → (if is_number_kind kind then number_in x.text else None) ≡ None
   by kinds.Name e = refl
-  by kinds.Number e = cc
-  by kinds.OpenBrace e = cc
-  by kinds.CloseBrace e = cc
-  by kinds.OpenRound e = cc
-  by kinds.CloseRound e = cc
-  by kinds.OpenSquare e = cc
-  by kinds.CloseSquare e = cc
-  by kinds.Semicolon e = cc
-  by kinds.Not e = cc
-  by kinds.And e = cc
-  by kinds.Or e = cc
-  by kinds.Arrow e = cc
-  by kinds.BothArrow e = cc
-  by kinds.LeftArrow e = cc
-  by kinds.Question e = cc
-  by kinds.Equals e = cc
+  by kind e = cc
 
 -- what an entry is for, by its word
 abbrev pub word_of_kind : NameKind → List ℕ
@@ -96,14 +81,14 @@ word_of_kind Predicate = codes "pred"
 word_of_kind Signal = codes "cell"
 
 pub kind_is : (x : TextToken) (kind : NameKind) → kind_at x ≡ Some kind → is_word (word_of_kind kind) x ≡ true
-kind_is x kind e = by (is_word (codes "func") x) refl (is_word (codes "pred") x) refl (is_word (codes "cell") x) refl e where
+kind_is x kind e = by (is_word (codes "func") x) refl (is_word (codes "pred") x) refl (is_word (codes "cell") x) refl kind e where
   by : (f : Bool) → is_word (codes "func") x ≡ f → (p : Bool) → is_word (codes "pred") x ≡ p → (c : Bool) → is_word (codes "cell") x ≡ c →
-      (if f then Some Function else (if p then Some Predicate else (if c then Some Signal else None))) ≡ Some kind →
+      (kind : NameKind) → (if f then Some Function else (if p then Some Predicate else (if c then Some Signal else None))) ≡ Some kind →
       is_word (word_of_kind kind) x ≡ true
-  by true f p g c h e = let same : Function ≡ kind = cc in rw (← same) f
-  by false f true g c h e = let same : Predicate ≡ kind = cc in rw (← same) g
-  by false f false g true h e = let same : Signal ≡ kind = cc in rw (← same) h
-  by false f false g false h e = cc
+  by true f p g c h Function e = f
+  by false f true g c h Predicate e = g
+  by false f false g true h Signal e = h
+  by is_f f is_p g is_c h kind e = cc
 
 pub kind_taken : (x : TextToken) (kind : NameKind) → is_word (word_of_kind kind) x ≡ true → kind_at x ≡ Some kind
 kind_taken x Function e = rw e refl

@@ -14,7 +14,7 @@ use Rattle.token_readers.proofs.Then.{Any}
 use Rattle.token_readers.proofs.Taken.{HasExample, IsOne, Never}
 use Rattle.token_readers.proofs.Sequels.{IsMapped, Then, after_one}
 use Rattle.token_readers.proofs.Iterates.{Shrinks, step_shrinks}
-use Rattle.token_readers.proofs.Lists.{AreAll, none, some, Member, stepping, members_exact}
+use Rattle.token_readers.proofs.Lists.{AreAll, none, some, Member, stepping}
 use Rattle.table_syntax.specs.declared.words.Operation.{Operation as WordOperation}
 use Rattle.table_syntax.specs.declared.words.Operation.TheVariants.{Add, Const}
 use Rattle.table_syntax.specs.declared.words.Test.TheVariants.{Less}
@@ -50,8 +50,8 @@ use Rattle.table_syntax.specs.internal.Reading.{
 }
 use Rattle.table_syntax.proofs.Terminals.{words_differ, name_is, name_taken, symbol_is, symbol_taken, word_of_kind, kind_is, kind_taken}
 use Rattle.table_syntax.proofs.Terminals.{name_example, has_name, has_symbol, has_word}
-use Rattle.table_syntax.proofs.Entries.{one_then, elsewhere, Form, one_terminal, mapped_form, then_form, other_form}
-use Rattle.table_syntax.proofs.Entries.{IsByKind, by_kind, IsHeaded, HeadedParts, parts_of, of_parts, headed_exact}
+use Rattle.table_syntax.proofs.Entries.{one_then, elsewhere, Form, one_terminal, mapped_form, then_form, other_form, listed_form}
+use Rattle.table_syntax.proofs.Entries.{IsByKind, by_kind, IsHeaded, built, of_parts, headed_exact}
 use Rattle.table_syntax.proofs.Exactness.{IsNumber, number_form}
 
 -- ---- operations
@@ -69,7 +69,8 @@ no_meaning (w ∷ ws) v differ x e =
     ap (λ b. if b then Some w.1 else meaning_in ws x) (words_differ v w.0 (not_true (bytes_eq v w.0) parts.0) x e)
     ∙ no_meaning ws v parts.1 x e
 
-word_if : (b : Bool) (o : Option WordOperation) (p : WordOperation) → (if b then Some None else option_map (λ q. Some q) o) ≡ Some (Some p) →
+word_if : (b : Bool) (o : Option WordOperation) (p : WordOperation) →
+    (if b then Some None else option_map (λ q. Some q) o) ≡ Some (Some p) →
     o ≡ Some p
 word_if true o p e = cc
 word_if false None p e = cc
@@ -143,17 +144,18 @@ IsForm Signal = Then (IsOne name_at) (λ name. IsMapped (λ n. word_entry_made n
 form : (kind : NameKind) (levels_left : ℕ) → Form (IsForm kind) Any levels_left (word_entry_of_kind kind)
 unfolding word_entry_of_kind
 form Function levels_left =
-    then_form (one_terminal name_at levels_left has_name) (λ name. mapped_form (λ o. word_entry_made name (Operation o)) (operation_form levels_left))
+    then_form (one_terminal name_at levels_left has_name)
+    (λ name. mapped_form (λ o. word_entry_made name (Operation o)) (operation_form levels_left))
 form Predicate levels_left =
     then_form (one_terminal symbol_at levels_left has_symbol)
     (λ name. mapped_form (λ t. word_entry_made name (Test t)) (one_terminal test_at levels_left has_test))
 form Signal levels_left =
-    then_form (one_terminal name_at levels_left has_name) (λ name. mapped_form (λ n. word_entry_made name (Value n)) (number_form levels_left))
+    then_form (one_terminal name_at levels_left has_name)
+    (λ name. mapped_form (λ n. word_entry_made name (Value n)) (number_form levels_left))
 
 lift_form : (kind : NameKind) (r : ℕ) (xs : List TextToken) (e : WordEntry) → IsForm kind r xs e → IsForm kind (suc (suc r)) xs e
 lift_form Function r xs e h = elsewhere (λ v ys k. k) h
-lift_form Predicate r xs e h = elsewhere (λ v ys k. k) h
-lift_form Signal r xs e h = elsewhere (λ v ys k. k) h
+lift_form kind r xs e h = elsewhere (λ v ys k. k) h
 
 entry_members : (levels_left : ℕ) → Member (IsByKind IsForm) Any Never levels_left word_entry_member (λ x. is_some (kind_at x))
     (λ xs. and_then (taking kind_at xs) word_entry_of_kind)
@@ -184,37 +186,22 @@ is_entry r xs e (word_predicate x y z t word name test) =
 is_entry r xs e (word_cell x y z n word name number) =
     one_then x (kind_taken x Signal word) (one_then y (name_taken y name) (n, (z, refl, number), refl))
 
-are_entries : (r : ℕ) (xs : List TextToken) (es : List WordEntry) → AreAll (IsByKind IsForm) r xs es → AreWordEntries xs es
-are_entries r xs es none = no_word_entry
-are_entries r xs es (some {f = f} {g = g} {v = e} {vs = ds} h rest) = more_word_entries (entry_is r f e h) (are_entries r g ds rest)
-
 all_entries : (r : ℕ) (xs : List TextToken) (es : List WordEntry) → AreWordEntries xs es → AreAll (IsByKind IsForm) r xs es
 all_entries r xs es no_word_entry = none
 all_entries r xs es (more_word_entries {xs = ys} {ys = zs} {e = e} {es = ds} h rest) = some (is_entry r ys e h) (all_entries r zs ds rest)
 
-entries_exact : (levels_left : ℕ) → Exact (λ r. AreWordEntries) Never levels_left word_entries
+entries_form : (levels_left : ℕ) → Form (λ r. AreWordEntries) Never levels_left word_entries
 unfolding word_entries
-entries_exact levels_left = exact_as are_entries all_entries (λ x e. e) (members_exact (entry_members levels_left))
+entries_form levels_left =
+    listed_form no_word_entry (λ r f g e es h rest. more_word_entries (entry_is r f e h) rest) all_entries (entry_members levels_left)
 
 pub word_entries_shrink : Shrinks (push word_entry_member)
 word_entries_shrink = step_shrinks (stepping (entry_members 0))
 
 -- ---- whole texts
 
-entries_form : (levels_left : ℕ) → Form (λ r. AreWordEntries) Never levels_left word_entries
-entries_form levels_left = record { exact = entries_exact levels_left; begins = λ r. record { ending = []; value = []; derives = no_word_entry } }
-
 abbrev IsWordsText : Grammar TextToken WordsSyntax
 IsWordsText = IsHeaded (codes "tslwords") (codes "bits") AreWordEntries words_made
-
-words_by : (xs : List TextToken) (t : WordsSyntax) → HeadedParts (codes "tslwords") (codes "bits") AreWordEntries words_made xs t →
-    IsWords xs t
-words_by xs t p =
-    rw (p.split, p.is)
-    (words p.first p.one p.second p.digits p.number p.is_first p.is_one p.is_second p.is_number p.some p.derived)
-
-is_words : (r : ℕ) (xs : List TextToken) (t : WordsSyntax) → IsWordsText r xs t → IsWords xs t
-is_words r xs t h = words_by xs t (parts_of r xs t h)
 
 words_are : (r : ℕ) (xs : List TextToken) (t : WordsSyntax) → IsWords xs t → IsWordsText r xs t
 words_are r xs t (words a b c d n head one word number few entries) = of_parts _ r a b c d n head one word number few entries
@@ -222,5 +209,6 @@ words_are r xs t (words a b c d n head one word number few entries) = of_parts _
 pub words_exact : (levels_left : ℕ) → Exact (λ r. IsWords) Never levels_left words_text
 unfolding words_text
 words_exact levels_left =
-    exact_as is_words words_are (λ x e. e)
+    exact_as (built IsWords (λ xs es a b c d n head one word number few entries. words a b c d n head one word number few entries))
+    words_are (λ x e. e)
     (headed_exact (has_word (codes "tslwords") refl) (has_word (codes "bits") refl) entries_form words_made levels_left)

@@ -41,10 +41,9 @@ impl From<NoMemory> for TextFault {
 /// Where the token begins from which on so many are left; at the end the text's length.
 fn start_of(text: &[u8], tokens: &[Token], left: usize) -> u32
     requires text { length text.now < 2 ^ 32 - 1 }
-    requires left { left ≤ length tokens.now }
     ensures { MatchOption (slice_get tokens.now (length tokens.now - left)) (result ≡ length text.now) (λ token. result ≡ token.start) }
 {
-    match tokens.get(tokens.len() - left) {
+    match tokens.get(tokens.len().saturating_sub(left)) {
         Some(token) => token.start,
         None => text.len() as u32,
     }

@@ -20,7 +20,3 @@ argument_step before after space argument rest whole written more =
     ∙ append_assoc before space (argument ++ rest)
     ∙ ap (λ xs. before ++ xs) (sym (append_assoc space argument rest))
     ∙ written
-
--- five pieces, one after another
-pub five_pieces : (out a b c d e : List ℕ) → ((((out ++ a) ++ b) ++ c) ++ d) ++ e ≡ out ++ (a ++ b ++ c ++ d ++ e)
-five_pieces out a b c d e = simp append_assoc

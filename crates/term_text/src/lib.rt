@@ -7,7 +7,7 @@
 //! depth has to fit the stack; lists of arguments are gone along by a loop.
 #![tactic(auto)]
 
-ghost use Rattle.std.specs.Prelude.{◌≡◌, ◌++◌, IsTrue, OnOk};
+ghost use Rattle.std.specs.Prelude.{◌≡◌, ◌++◌, codes, IsTrue, OnOk};
 ghost use Rattle.tsl_text.specs.Division.{BeginsWith};
 ghost use Rattle.tsl_terms.specs.TermTree.{term_tree, term_trees, probe_tree};
 ghost use Rattle.term_text.specs.TermText.{name_text, argument_text, applied_text, term_text, arguments_text, application_text, probe_text, update_text, is_held, term_is_held, terms_are_held, probe_is_held};
@@ -130,10 +130,19 @@ pub fn put_update(
 {
     put(out, b"[")?;
     put_name(out, names, signal)?;
+    put_new_value(out, names, term)
+}
+
+/// Appends what an update says of the new value, ` <- t]`.
+#[tactic(auto, using(crate::proofs::Begins::begins_itself, crate::proofs::Begins::begins_longer))]
+fn put_new_value(out: &mut Vec<u8>, names: &Names, term: &Term) -> Result<(), NoMemory>
+    requires { IsTrue (term_is_held names.now (term_tree term.now)) }
+    ensures front { BeginsWith out.new.items out.old.items }
+    ensures text { OnOk result (out.new.items ≡ out.old.items ++ (codes " <- " ++ term_text names.now (term_tree term.now) ++ codes "]")) }
+{
     put(out, b" <- ")?;
     put_term(out, names, term)?;
-    put(out, b"]")?;
-    Ok(())
+    put(out, b"]")
 }
 
 /// Appends bytes.

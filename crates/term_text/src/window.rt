@@ -14,7 +14,7 @@ use tsl_terms::{Equated, Listed, Names, Probe, Window};
 use tsl_text::put_number;
 
 /// Appends the line of a window.
-#[tactic(auto, using(crate::proofs::Begins::begins_longer))]
+#[tactic(auto, using(crate::proofs::Begins::begins_longer, crate::proofs::Held::window_parts))]
 pub fn put_window(out: &mut Vec<u8>, names: &Names, window: &Window) -> Result<(), NoMemory>
     requires { IsTrue (window_is_held names.now (window_tree window.now)) }
     ensures front { BeginsWith out.new.items out.old.items }
@@ -28,7 +28,7 @@ pub fn put_window(out: &mut Vec<u8>, names: &Names, window: &Window) -> Result<(
 }
 
 /// Appends a window's line up to what it lists.
-#[tactic(auto, using(crate::proofs::Begins::begins_longer))]
+#[tactic(auto, using(crate::proofs::Begins::begins_longer, sequence::proofs::Passes::list_all_parts))]
 fn put_sides(out: &mut Vec<u8>, names: &Names, window: &Window) -> Result<(), NoMemory>
     requires { IsTrue (list_all (probe_is_held names.now)
         (left_probes (window_tree window.now).left ++ (window_tree window.now).right ∷ [])) }

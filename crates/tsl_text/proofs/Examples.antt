@@ -1,5 +1,5 @@
 -- The definitions on texts that were worked by hand: what they accept, and what they refuse.
-use Rattle.std.proofs.Common.{◌≡◌, ℕ, List, [], ◌∷◌, ◌++◌, length, Some, refl, sym, ◌∙◌, ap, inl, inr, arith, lit<}
+use Rattle.std.proofs.Common.{◌≡◌, ℕ, List, [], ◌∷◌, ◌++◌, length, Some, refl, inl, inr, arith, lit<}
 use Rattle.std.specs.Prelude.{codes}
 use Rattle.tsl_text.specs.Division.{
   Part,
@@ -21,9 +21,9 @@ use Rattle.tsl_text.specs.Lexeme.{IsTokenText, name, symbol}
 use Rattle.tsl_text.specs.Places.{IsBetweenFeeds, IsLineEnd, IsColumn}
 use Rattle.tsl_text.specs.declared.TokenKind.{TokenKind}
 use Rattle.tsl_text.specs.declared.TokenKind.TheVariants.{Name, Number, BothArrow, LeftArrow}
-use Rattle.tsl_text.specs.declared.front.Piece.TheVariants.{Longest, Nothing}
+use Rattle.tsl_text.specs.declared.front.Piece.TheVariants.{Nothing}
 use Rattle.tsl_text.proofs.Comments.{after_comment-closing}
-use Rattle.tsl_text.proofs.Pieces.{finds, found_longest, found_nothing, found_open}
+use Rattle.tsl_text.proofs.Pieces.{finds, stands_there, found_nothing, found_open}
 
 -- ---- tokens
 
@@ -93,18 +93,6 @@ inner_alone = not_closed (codes "/* */") (λ e. cc)
 
 -- ---- divisions
 
--- the token that computes as the longest stands there
-stands : (kind : TokenKind) (text after : List ℕ) → piece_of (text ++ after) ≡ Longest kind (length text) → IsTokenText kind text →
-    Stands (lexeme kind text) after
-stands kind text after e h =
-    let token = found_longest (text ++ after) kind (length text) e in (
-      h,
-      λ other longer more same k. let at = finds other longer more k in
-          let piece : Longest at.found at.len ≡ Longest kind (length text) = sym at.piece ∙ ap piece_of (sym same) ∙ e in
-          let lens : at.len ≡ length text = cc in
-          omega (arith, at.long),
-    )
-
 -- `a<->b//x` is a name, one arrow, a name and a comment
 arrow_parts : List Part
 arrow_parts = lexeme Name (codes "a") ∷ lexeme BothArrow (codes "<->") ∷ lexeme Name (codes "b") ∷ comment (codes "//x") ∷ []
@@ -114,15 +102,15 @@ unfolding arrow_parts
 arrow_divides = (
   codes "<->b//x",
   refl,
-  stands Name (codes "a") (codes "<->b//x") refl refl,
+  stands_there (lexeme Name (codes "a")) (codes "<->b//x") refl refl,
   (
     codes "b//x",
     refl,
-    stands BothArrow (codes "<->") (codes "b//x") refl refl,
+    stands_there (lexeme BothArrow (codes "<->")) (codes "b//x") refl refl,
     (
       codes "//x",
       refl,
-      stands Name (codes "b") (codes "//x") refl refl,
+      stands_there (lexeme Name (codes "b")) (codes "//x") refl refl,
       (
         [],
         refl,
@@ -168,7 +156,7 @@ open_fault : HasOpenComment (codes "a/*/**/") 1
 open_fault = record {
   parts = lexeme Name (codes "a") ∷ [];
   rest = codes "/*/**/";
-  divides = (codes "/*/**/", refl, stands Name (codes "a") (codes "/*/**/") refl refl, refl);
+  divides = (codes "/*/**/", refl, stands_there (lexeme Name (codes "a")) (codes "/*/**/") refl refl, refl);
   place = refl;
   unclosed = found_open (codes "/*/**/") refl;
 }

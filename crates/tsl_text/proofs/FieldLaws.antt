@@ -5,6 +5,7 @@ use Rattle.std.proofs.Common.{
   zero,
   suc,
   ◌+◌,
+  ◌-◌,
   ◌<◌,
   ◌≤◌,
   Bool,
@@ -33,11 +34,12 @@ use Rattle.std.proofs.Common.{
 }
 use Rattle.std.specs.List.{list_all, slice_split, onto_first, prefix_len, All}
 use Rattle.std.proofs.lemmas.Bool.{and_parts, not-true, not-false, eqb-true}
-use Rattle.std.proofs.lemmas.List.{drop_more, take_all}
+use Rattle.std.proofs.lemmas.List.{drop_more, take_all, take_rest}
 use Rattle.std.proofs.lemmas.List.Sums.{prefix_len-le-length, prefix_len_stops}
 use Rattle.std.proofs.lemmas.List.Elements.{All-nil, All-cons}
 use Rattle.std.proofs.lemmas.List.Splits.{slice_split_none, slice_split_at}
 use Rattle.sequence.proofs.Passes.{list_all-prefix}
+pub use Rattle.tsl_text.proofs.Fronts.{IsStop, stop_after_prefix}
 use Rattle.tsl_text.specs.Lines.{is_blank, is_space, has_bytes, words, fields}
 use Rattle.tsl_text.specs.Written.{is_field, line_of_fields}
 
@@ -98,75 +100,63 @@ fields_made first (next ∷ more) h =
 
 -- ---- what the code splits off
 
--- after the longest front that passes stands nothing, or a byte that fails
-abbrev pub IsStop : (ℕ → Bool) → List ℕ → Type 0
-IsStop test [] = Unit {0}
-IsStop test (byte ∷ bytes) = test byte ≡ false
-
-pub stop_after_prefix : (test : ℕ → Bool) (bytes : List ℕ) → IsStop test (drop (prefix_len test bytes) bytes)
-stop_after_prefix test [] = tt
-stop_after_prefix test (b ∷ bs) = by_test (test b) refl (stop_after_prefix test bs)
-  where
-    by_test : (t : Bool) → test b ≡ t → IsStop test (drop (prefix_len test bs) bs) →
-        IsStop test (drop (cond t (1 + prefix_len test bs) 0) (b ∷ bs))
-    by_test true e rest =
-        let next : suc (prefix_len test bs) ≡ 1 + prefix_len test bs = omega arith in
-        subst (λ n. IsStop test (drop n (b ∷ bs))) next rest
-    by_test false e rest = e
-
 has_bytes_taken : (n : ℕ) (rest : List ℕ) → 0 < n → n ≤ length rest → has_bytes (take n rest) ≡ true
 has_bytes_taken n [] some within = absurd (omega arith)
 has_bytes_taken zero (b ∷ bs) some within = absurd (omega arith)
 has_bytes_taken (suc n) (b ∷ bs) some within = refl
 
--- the line after its blanks has the same words
-skipped : (line rest : List ℕ) (start : ℕ) → start ≡ prefix_len is_blank line → rest ≡ drop start line → words line ≡ words rest
-skipped line rest start s r =
-    ap words (sym (take-append-drop start line))
-    ∙ (words_blanks (take start line) (drop start line) (ap (λ k. list_all is_blank (take k line)) s ∙ list_all-prefix is_blank line)
-    ∙ ap words (sym r))
-
-no_word_left : (rest : List ℕ) → IsStop is_blank rest → prefix_len (λ byte. not (is_blank byte)) rest ≡ 0 → rest ≡ []
+no_word_left : (rest : List ℕ) → IsStop is_blank rest → prefix_len (λ byte. not (is_blank byte)) rest ≡ 0 → words rest ≡ []
 no_word_left [] stop h = refl
 no_word_left (b ∷ bs) stop h =
-    let one : cond (not (is_blank b)) (1 + prefix_len (λ byte. not (is_blank byte)) bs) 0
-    ≡ 1 + prefix_len (λ byte. not (is_blank byte)) bs =
-    ap (λ t. cond (not t) (1 + prefix_len (λ byte. not (is_blank byte)) bs) 0) stop in
+    let one : prefix_len (λ byte. not (is_blank byte)) (b ∷ bs) ≡ 1 + prefix_len (λ byte. not (is_blank byte)) bs = rw stop refl in
     absurd (omega (arith, h, one))
 
 word_end : (rest : List ℕ) → IsStop (λ byte. not (is_blank byte)) rest → IsWordEnd rest
 word_end [] stop = tt
 word_end (b ∷ bs) stop = not-false (is_blank b) stop
 
-pub word_none : (line rest : List ℕ) (start n : ℕ) → start ≡ prefix_len is_blank line → rest ≡ drop start line →
-    n ≡ prefix_len (λ byte. not (is_blank byte)) rest → n ≡ 0 → words line ≡ []
-word_none line rest start n s r e zero_len =
-    let stop : IsStop is_blank rest = subst (IsStop is_blank) (ap (λ k. drop k line) (sym s) ∙ sym r) (stop_after_prefix is_blank line) in
-    skipped line rest start s r ∙ ap words (no_word_left rest stop (sym e ∙ zero_len))
+-- the line behind its blanks, as the code cuts it, has the same words
+abbrev pub unblanked : List ℕ → ℕ → List ℕ
+unblanked line start = take (length line - start) (drop start line)
 
-pub word_some : (line rest tail : List ℕ) (start n : ℕ) → start ≡ prefix_len is_blank line → rest ≡ drop start line →
-    n ≡ prefix_len (λ byte. not (is_blank byte)) rest → (n ≡ 0 → ⊥) → tail ≡ drop n rest → words line ≡ take n rest ∷ words tail
-word_some line rest tail start n s r e some t =
+skipped : (line : List ℕ) (start : ℕ) → start ≡ prefix_len is_blank line → words line ≡ words (unblanked line start)
+skipped line start s =
+    ap words (sym (take-append-drop start line))
+    ∙ words_blanks (take start line) (drop start line) (ap (λ k. list_all is_blank (take k line)) s ∙ list_all-prefix is_blank line)
+    ∙ ap words (sym (take_rest line start))
+
+pub word_none : (line : List ℕ) → prefix_len (λ byte. not (is_blank byte)) (unblanked line (prefix_len is_blank line)) ≡ 0 → words line ≡ []
+word_none line none =
+    skipped line (prefix_len is_blank line) refl
+    ∙ no_word_left (unblanked line (prefix_len is_blank line))
+    (subst (IsStop is_blank) (sym (take_rest line (prefix_len is_blank line))) (stop_after_prefix is_blank line)) none
+
+pub word_some : (line : List ℕ) (start n : ℕ) → start ≡ prefix_len is_blank line →
+    n ≡ prefix_len (λ byte. not (is_blank byte)) (unblanked line start) → (n ≡ 0 → ⊥) →
+    take n (unblanked line start) ∷ words (unblanked (unblanked line start) n) ≡ words line
+word_some line start n s e some =
     let test : ℕ → Bool = λ byte. not (is_blank byte) in
+    let rest = unblanked line start in
     let within : n ≤ length rest = omega (arith, e, prefix_len-le-length test rest) in
     let end : IsWordEnd (drop n rest) =
     word_end (drop n rest) (subst (λ k. IsStop test (drop k rest)) (sym e) (stop_after_prefix test rest)) in
     let word : is_word (take n rest) ≡ true = ap (λ k. is_word (take k rest)) e ∙ list_all-prefix test rest in
-    skipped line rest start s r
-    ∙ (ap words (sym (take-append-drop n rest))
-    ∙ (words_word (take n rest) (drop n rest) (has_bytes_taken n rest (omega (arith, some)) within) word end
-    ∙ ap (λ xs. take n rest ∷ words xs) (sym t)))
+    ap (λ tail. take n rest ∷ words tail) (take_rest rest n)
+    ∙ sym (words_word (take n rest) (drop n rest) (has_bytes_taken n rest (omega (arith, some)) within) word end)
+    ∙ ap words (take-append-drop n rest) ∙ sym (skipped line start s)
 
-pub field_more : (line rest : List ℕ) (n : ℕ) → n ≡ prefix_len (λ byte. not (is_space byte)) line → n < length line →
-    rest ≡ drop (n + 1) line → fields line ≡ take n line ∷ fields rest
-field_more line rest n e h r =
+-- the fields of a line up to its first space and behind it, as the code cuts them
+pub field_more : (line : List ℕ) (n : ℕ) → n ≡ prefix_len (λ byte. not (is_space byte)) line → n < length line →
+    take n line ∷ fields (take (length line - (n + 1)) (drop (n + 1) line)) ≡ fields line
+field_more line n e h =
     let test : ℕ → Bool = λ byte. not (is_space byte) in
     let stop = prefix_len_stops test line 0 (omega (arith, e, h)) in
     let space : get_or line n 0 ≡ 32 = ap (λ k. get_or line k 0) e
     ∙ eqb-true (get_or line (prefix_len test line) 0) 32 (not-false (eqb (get_or line (prefix_len test line) 0) 32) stop) in
-    let split : line ≡ take n line ++ 32 ∷ rest = sym (take-append-drop n line)
-    ∙ (ap (λ xs. take n line ++ xs) (drop_more line n 0 h) ∙ (λ i. take n line ++ space i ∷ sym r i)) in
-    ap fields split ∙ fields_space (take n line) rest (ap (λ k. is_field (take k line)) e ∙ list_all-prefix test line)
+    ap (λ rest. take n line ∷ fields rest) (take_rest line (n + 1))
+    ∙ sym (fields_space (take n line) (drop (n + 1) line) (ap (λ k. is_field (take k line)) e ∙ list_all-prefix test line))
+    ∙ ap fields ((λ i. take n line ++ sym space i ∷ drop (n + 1) line)
+    ∙ ap (λ xs. take n line ++ xs) (sym (drop_more line n 0 h)) ∙ take-append-drop n line)
 
 pub field_last : (line : List ℕ) (n : ℕ) → n ≡ prefix_len (λ byte. not (is_space byte)) line → length line ≤ n → fields line ≡ line ∷ []
 field_last line n e h =

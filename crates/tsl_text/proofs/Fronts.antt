@@ -1,6 +1,6 @@
 -- What a text begins with, and runs of bytes at its front.
-use Rattle.std.proofs.Common.{◌≡◌, ℕ, Bool, true, false, List, [], ◌∷◌, ◌++◌, IsTrue, refl, sym, ap, ◌∙◌}
-use Rattle.std.specs.List.{list_all}
+use Rattle.std.proofs.Common.{◌≡◌, ℕ, suc, ◌+◌, Bool, true, false, cond, List, [], ◌∷◌, ◌++◌, drop, IsTrue, refl, sym, ap, subst, ◌∙◌, arith}
+use Rattle.std.specs.List.{list_all, prefix_len}
 use Rattle.std.proofs.lemmas.Bool.{and_parts, false≢true}
 
 -- whether a text begins with a byte that passes a test
@@ -29,3 +29,19 @@ one_run test (x ∷ a) (y ∷ b) u v p q h k e =
     let first : x ≡ y = cc in
     let fronts : a ≡ b = more.0 in
     (cc, more.1)
+
+-- after the longest front that passes stands nothing, or a byte that fails
+abbrev pub IsStop : (ℕ → Bool) → List ℕ → Type 0
+IsStop test [] = Unit {0}
+IsStop test (byte ∷ bytes) = test byte ≡ false
+
+pub stop_after_prefix : (test : ℕ → Bool) (bytes : List ℕ) → IsStop test (drop (prefix_len test bytes) bytes)
+stop_after_prefix test [] = tt
+stop_after_prefix test (b ∷ bs) = by_test (test b) refl (stop_after_prefix test bs)
+  where
+    by_test : (t : Bool) → test b ≡ t → IsStop test (drop (prefix_len test bs) bs) →
+        IsStop test (drop (cond t (1 + prefix_len test bs) 0) (b ∷ bs))
+    by_test true e rest =
+        let next : suc (prefix_len test bs) ≡ 1 + prefix_len test bs = omega arith in
+        subst (λ n. IsStop test (drop n (b ∷ bs))) next rest
+    by_test false e rest = e

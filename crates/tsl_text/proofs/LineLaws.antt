@@ -4,6 +4,7 @@ use Rattle.std.proofs.Common.{
   ℕ,
   suc,
   ◌+◌,
+  ◌-◌,
   ◌<◌,
   ◌≤◌,
   Bool,
@@ -29,7 +30,7 @@ use Rattle.std.proofs.Common.{
 }
 use Rattle.std.specs.List.{onto_first, list_all, prefix_len}
 use Rattle.std.proofs.lemmas.Bool.{and_parts, not-false, not-true, eqb-true, cond-false}
-use Rattle.std.proofs.lemmas.List.{drop_more, take_all}
+use Rattle.std.proofs.lemmas.List.{drop_more, drop_all, take_all, take_rest}
 use Rattle.std.proofs.lemmas.List.Sums.{prefix_len_stops}
 use Rattle.sequence.proofs.Passes.{list_all-prefix}
 use Rattle.tsl_text.specs.Lines.{is_line_byte, lines, is_ended, with_numbers, lines_from}
@@ -105,20 +106,22 @@ split_feed text line rest n e h front back =
       ap is_line (front ∙ ap (λ k. take k text) e) ∙ list_all-prefix is_line_byte text,
     )
 
-pub feed_lines : (text line rest : List ℕ) (n : ℕ) → n ≡ prefix_len is_line_byte text → n < length text → line ≡ take n text →
-    rest ≡ drop (n + 1) text → lines text ≡ line ∷ lines rest
-feed_lines text line rest n e h front back =
-    let split = split_feed text line rest n e h front back in
-    ap lines split.0 ∙ lines_feed line rest split.1
+-- the lines of a text with a line feed, as the code cuts it
+module _ (text : List ℕ) (n : ℕ) (len : n ≡ prefix_len is_line_byte text) (within : n < length text) where
+  feed_split : (text ≡ take n text ++ 10 ∷ drop (n + 1) text) × (is_line (take n text) ≡ true)
+  feed_split = split_feed text (take n text) (drop (n + 1) text) n len within refl refl
 
-pub feed_numbered : (text line rest : List ℕ) (n number : ℕ) → n ≡ prefix_len is_line_byte text → n < length text → line ≡ take n text →
-    rest ≡ drop (n + 1) text →
-    lines_from number text ≡ record { number = number; bytes = line; ended = true } ∷ lines_from (number + 1) rest
-feed_numbered text line rest n number e h front back =
-    let split = split_feed text line rest n e h front back in
-    let next : suc number ≡ number + 1 = omega arith in
-    ap (lines_from number) split.0
-    ∙ (from_feed number line rest split.1 ∙ ap (λ k. record { number = number; bytes = line; ended = true } ∷ lines_from k rest) next)
+  pub feed_lines : take n text ∷ lines (take (length text - (n + 1)) (drop (n + 1) text)) ≡ lines text
+  feed_lines = ap (λ rest. take n text ∷ lines rest) (take_rest text (n + 1))
+      ∙ sym (ap lines feed_split.0 ∙ lines_feed (take n text) (drop (n + 1) text) feed_split.1)
+
+  pub feed_numbered : (number : ℕ) →
+      record { number = number; bytes = take n text; ended = true }
+      ∷ lines_from (number + 1) (take (length text - (n + 1)) (drop (n + 1) text)) ≡ lines_from number text
+  feed_numbered number =
+      let next : number + 1 ≡ suc number = omega arith in
+      (λ i. record { number = number; bytes = take n text; ended = true } ∷ lines_from (next i) (take_rest text (n + 1) i))
+      ∙ sym (ap (lines_from number) feed_split.0 ∙ from_feed number (take n text) (drop (n + 1) text) feed_split.1)
 
 -- a text without a line feed
 whole_line : (text : List ℕ) (n : ℕ) → n ≡ prefix_len is_line_byte text → length text ≤ n → is_line text ≡ true
@@ -129,12 +132,6 @@ nothing : (rest : List ℕ) → length rest ≡ 0 → rest ≡ []
 nothing [] h = refl
 nothing (b ∷ bs) h = absurd (omega arith)
 
-pub cut_lines : (text rest : List ℕ) (n : ℕ) → n ≡ prefix_len is_line_byte text → eqb (length text) 0 ≡ false → length text ≤ n →
-    length rest ≡ 0 → lines text ≡ text ∷ lines rest
-cut_lines [] rest n e some h none = absurd cc
-cut_lines (b ∷ bs) rest n e some h none = lines_cut b bs (whole_line (b ∷ bs) n e h)
-    ∙ ap (λ r. (b ∷ bs) ∷ lines r) (sym (nothing rest none))
-
 pub cut_numbered : (text rest : List ℕ) (n number : ℕ) → n ≡ prefix_len is_line_byte text → eqb (length text) 0 ≡ false → length text ≤ n →
     length rest ≡ 0 →
     lines_from number text ≡ record { number = number; bytes = text; ended = false } ∷ lines_from (number + 1) rest
@@ -142,6 +139,23 @@ cut_numbered [] rest n number e some h none = absurd cc
 cut_numbered (b ∷ bs) rest n number e some h none =
     from_cut number b bs (whole_line (b ∷ bs) n e h)
     ∙ ap (λ r. record { number = number; bytes = b ∷ bs; ended = false } ∷ lines_from (number + 1) r) (sym (nothing rest none))
+
+-- the lines of a text without one, as the code cuts it
+module _ (text : List ℕ) (n : ℕ) (len : n ≡ prefix_len is_line_byte text) (some : eqb (length text) 0 ≡ false) (all : length text ≤ n) where
+  cut_left : take (length text - n) (drop n text) ≡ []
+  cut_left = take_rest text n ∙ drop_all n text all
+
+  pub cut_lines : text ∷ lines (take (length text - n) (drop n text)) ≡ lines text
+  cut_lines = ap (λ rest. text ∷ lines rest) cut_left ∙ sym (by text some (whole_line text n len all))
+    where
+      by : (line : List ℕ) → eqb (length line) 0 ≡ false → is_line line ≡ true → lines line ≡ line ∷ []
+      by [] some h = absurd cc
+      by (b ∷ bs) some h = lines_cut b bs h
+
+  pub cut_to_end : (number : ℕ) →
+      record { number = number; bytes = text; ended = false } ∷ lines_from (number + 1) (take (length text - n) (drop n text))
+      ≡ lines_from number text
+  cut_to_end number = sym (cut_numbered text (take (length text - n) (drop n text)) n number len some all (ap length cut_left))
 
 -- ---- the text that lines make
 

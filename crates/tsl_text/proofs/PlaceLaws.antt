@@ -9,6 +9,8 @@ use Rattle.std.proofs.Common.{
   Bool,
   true,
   false,
+  not,
+  ◌&&◌,
   eqb,
   List,
   [],
@@ -40,8 +42,9 @@ use Rattle.std.specs.Cmp.Lexicographic.{pointwise}
 use Rattle.std.specs.List.{list_all, prefix_len, count_by}
 use Rattle.std.proofs.lemmas.Bool.Decides.{Decides-eqb}
 use Rattle.std.proofs.lemmas.Slice.Eq.{slice_eq-Decides}
-use Rattle.std.proofs.lemmas.Bool.{and_parts, and_from, eqb-true, not-false, not_from_false, cases_eq, cases_lt, ne_eqb}
+use Rattle.std.proofs.lemmas.Bool.{and_from, eqb-true, not-false, cases_eq, cases_lt, ne_eqb}
 use Rattle.std.proofs.lemmas.List.{take_more, drop_at, take_at, get_or_at, take_rest}
+use Rattle.std.proofs.lemmas.List.Folds.{list_all-append}
 use Rattle.std.proofs.lemmas.List.Sums.{prefix_len-le-length, prefix_len_passes, prefix_len_stops, count_by_more_yes, count_by_more_no}
 use Rattle.tsl_text.specs.Lines.{is_line_byte, HasNoLineFeed}
 use Rattle.tsl_text.specs.Places.{IsLineStart, IsBetweenFeeds, IsColumn}
@@ -50,62 +53,48 @@ use Rattle.tsl_text.proofs.Bytes.{prefix_len-line, line_end-prefix}
 
 -- ---- columns
 
-no_line_feed-push : (line : List ℕ) (byte : ℕ) → HasNoLineFeed line → is_line_byte byte ≡ true → HasNoLineFeed (line ++ byte ∷ [])
-no_line_feed-push [] byte h k = and_from (is_line_byte byte) true k refl
-no_line_feed-push (first ∷ line) byte h k =
-    let parts = and_parts (is_line_byte first) (list_all is_line_byte line) h in
-    and_from (is_line_byte first) (list_all is_line_byte (line ++ byte ∷ [])) parts.0 (no_line_feed-push line byte parts.1 k)
+-- the line and the column behind these bytes
+pub record IsPlace (front : List ℕ) (line column : ℕ) : Type 0 where
+  pub feeds : line ≡ 1 + count_by (λ byte. eqb byte 10) front
+  pub last : IsColumn front column
 
-pub column_none : IsColumn [] 1
-column_none = record { lines = []; line = []; split = refl; begins = inl refl; whole = refl; count = refl }
-
--- behind a line feed
-column_feed : (front : List ℕ) → IsColumn (front ++ 10 ∷ []) 1
-column_feed front = record {
-  lines = front ++ 10 ∷ [];
-  line = [];
-  split = sym (append-nil (front ++ 10 ∷ []));
-  begins =
-      inr (front, refl);
-  whole = refl;
-  count = refl;
+pub place_none : IsPlace [] 1 1
+place_none = record {
+  feeds = refl;
+  last = record { lines = []; line = []; split = refl; begins = inl refl; whole = refl; count = refl };
 }
 
--- behind another byte
-column_byte : (front : List ℕ) (byte column : ℕ) → is_line_byte byte ≡ true → IsColumn front column →
-    IsColumn (front ++ byte ∷ []) (column + 1)
-column_byte front byte column k h = record {
-  lines = h.lines;
-  line = h.line ++ byte ∷ [];
-  split = ap (λ t. t ++ byte ∷ []) h.split ∙ append_assoc h.lines h.line (byte ∷ []);
-  begins = h.begins;
-  whole = no_line_feed-push h.line byte h.whole k;
-  count = omega (arith, h.count, length-append h.line (byte ∷ []));
-}
+-- the place behind one more byte of the text: a line feed, or another byte
+module _ (bytes : List ℕ) (at line column : ℕ) (inside : at < length bytes) (h : IsPlace (take at bytes) line column) where
+  pub place_feed : get_or bytes at 0 ≡ 10 → IsPlace (take (at + 1) bytes) (line + 1) 1
+  place_feed feed = record {
+    feeds = omega (arith, h.feeds, count_by_more_yes (λ byte. eqb byte 10) bytes at 0 inside (ap (λ b. eqb b 10) feed));
+    last = record {
+      lines = take (at + 1) bytes;
+      line = [];
+      split = sym (append-nil (take (at + 1) bytes));
+      begins = inr (take at bytes, take_more bytes at 0 inside ∙ ap (λ b. take at bytes ++ b ∷ []) feed);
+      whole = refl;
+      count = refl;
+    };
+  }
 
--- the place behind one more byte of the text
-pub place_feed : (bytes : List ℕ) (at line column next_line next_column : ℕ) → at < length bytes → get_or bytes at 0 ≡ 10 →
-    next_line ≡ line + 1 → next_column ≡ 1 →
-    line ≡ 1 + count_by (λ byte. eqb byte 10) (take at bytes) →
-    (next_line ≡ 1 + count_by (λ byte. eqb byte 10) (take (at + 1) bytes)) × IsColumn (take (at + 1) bytes) next_column
-place_feed bytes at line column next_line next_column inside feed l c h = (
-  omega (arith, count_by_more_yes (λ byte. eqb byte 10) bytes at 0 inside (ap (λ b. eqb b 10) feed)),
-  subst (λ n. IsColumn (take (at + 1) bytes) n) (sym c)
-      (subst (λ t. IsColumn t 1) (sym (take_more bytes at 0 inside ∙ ap (λ b. take at bytes ++ b ∷ []) feed))
-      (column_feed (take at bytes))),
-)
-
-pub place_byte : (bytes : List ℕ) (at line column next_line next_column : ℕ) → at < length bytes → (get_or bytes at 0 ≡ 10 → ⊥) →
-    next_line ≡ line → next_column ≡ column + 1 →
-    line ≡ 1 + count_by (λ byte. eqb byte 10) (take at bytes) → IsColumn (take at bytes) column →
-    (next_line ≡ 1 + count_by (λ byte. eqb byte 10) (take (at + 1) bytes)) × IsColumn (take (at + 1) bytes) next_column
-place_byte bytes at line column next_line next_column inside other l c h k =
-    let test = ne_eqb (get_or bytes at 0) 10 other in (
-      omega (arith, count_by_more_no (λ byte. eqb byte 10) bytes at 0 inside test),
-      subst (λ n. IsColumn (take (at + 1) bytes) n) (sym c)
-          (subst (λ t. IsColumn t (column + 1)) (sym (take_more bytes at 0 inside))
-          (column_byte (take at bytes) (get_or bytes at 0) column (not_from_false (eqb (get_or bytes at 0) 10) test) k)),
-    )
+  pub place_byte : (get_or bytes at 0 ≡ 10 → ⊥) → IsPlace (take (at + 1) bytes) line (column + 1)
+  place_byte other =
+      let byte = get_or bytes at 0 ∷ [] in
+      let test = ne_eqb (get_or bytes at 0) 10 other in
+      record {
+        feeds = omega (arith, h.feeds, count_by_more_no (λ byte. eqb byte 10) bytes at 0 inside test);
+        last = record {
+          lines = h.last.lines;
+          line = h.last.line ++ byte;
+          split = take_more bytes at 0 inside ∙ ap (λ t. t ++ byte) h.last.split ∙ append_assoc h.last.lines h.last.line byte;
+          begins = h.last.begins;
+          whole = list_all-append is_line_byte h.last.line byte
+              ∙ and_from (list_all is_line_byte h.last.line) _ h.last.whole (ap (λ b. not b && true) test);
+          count = omega (arith, h.last.count, length-append h.last.line byte);
+        };
+      }
 
 -- ---- lines
 

@@ -110,6 +110,7 @@ pub fn line_len(text: &[u8]) -> usize
 
 /// How many bytes there are up to and with the `*/` that closes a comment, whose text behind its
 /// `/*` is this. `None` where it is not closed.
+#[tactic(auto, using(crate::proofs::Comments::scan_step, crate::proofs::Comments::short_scan))]
 fn closing_len(text: &[u8]) -> Option<usize>
     ensures none { IfNone result (after_comment 0 text.now ≡ None) }
     ensures some { IfSome result (λ len. after_comment 0 text.now ≡ Some (drop len text.now)) }

@@ -37,6 +37,7 @@ pub fn lines_of(text: &[u8]) -> Lines<'_>
 }
 
 /// The first line that is left, and what is left after it. `None` where no line is left.
+#[tactic(auto, using(crate::proofs::LineLaws::feed_lines, crate::proofs::LineLaws::feed_numbered, crate::proofs::LineLaws::cut_lines, crate::proofs::LineLaws::cut_to_end))]
 pub fn first_line(left: Lines<'_>) -> Option<(Line<'_>, Lines<'_>)>
     requires { IsCountable left }
     ensures some { IfSome result (λ found. lines_left left.entry ≡ line_view found.0 ∷ lines_left found.1) }
@@ -92,6 +93,7 @@ pub fn line_count(text: &[u8]) -> u32
 }
 
 /// The first word of a line, and what stands after it. `None` where the line has no word.
+#[tactic(auto, using(crate::proofs::FieldLaws::word_none, crate::proofs::FieldLaws::word_some))]
 pub fn first_word(line: &[u8]) -> Option<(&[u8], &[u8])>
     ensures some { IfSome result (λ found. words line.now ≡ found.0.now ∷ words found.1.now) }
     ensures none { IfNone result (words line.now ≡ []) }
@@ -107,6 +109,7 @@ pub fn first_word(line: &[u8]) -> Option<(&[u8], &[u8])>
 }
 
 /// The first field of a line, and what stands after the space that ends it. There is nothing after the last field.
+#[tactic(auto, using(crate::proofs::FieldLaws::field_more, crate::proofs::FieldLaws::field_last))]
 pub fn first_field(line: &[u8]) -> (&[u8], Option<&[u8]>)
     ensures more { IfSome result.1 (λ after. fields line.now ≡ result.0.now ∷ fields after.now) }
     ensures last { IfNone result.1 (fields line.now ≡ result.0.now ∷ []) }

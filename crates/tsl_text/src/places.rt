@@ -15,6 +15,7 @@ pub struct Place {
 }
 
 /// The place of the byte at this offset, or of the text's end. It takes no memory.
+#[tactic(auto, using(crate::proofs::PlaceLaws::place_none))]
 pub fn place_of(text: &[u8], offset: u32) -> Place
     requires inside { offset ≤ length text.now }
     requires short { length text.now < 2 ^ 32 - 1 }

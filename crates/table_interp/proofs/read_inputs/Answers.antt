@@ -1,5 +1,3 @@
-use Rattle.std.proofs.Common.{arith}
-use Rattle.std.proofs.lemmas.List.{length-map}
 use Rattle.std.proofs.lemmas.Result.{IfOk-weaker}
 use Rattle.std.proofs.lemmas.Result.{IfErr-weaker}
 use Rattle.tsl_meaning.specs.Interpretation.{rows_of}
@@ -10,14 +8,6 @@ use Rattle.sequence.proofs.Results.{handed_on}
 use Rattle.table_interp.proofs.OneInputCause.{inputs_refused}
 use Rattle.table_interp.proofs.Refusals.{input_form_cause, row_cause}
 use Rattle.table_interp.proofs.read_inputs.Goals as goal
-
-pub rows_from-requires-clause-some : goal.rows_from-requires-clause-some
-rows_from-requires-clause-some c =
-    omega (
-      arith,
-      has_cycle c.args.text.now (inputs_view c.in_ok-given.given) c.in_ok-given.ensures.read,
-      length-map c.in_ok-given.given.cycle.items (λ row. row.items),
-    )
 
 pub returns-in_err-given-clause-refused : goal.returns-in_err-given-clause-refused
 returns-in_err-given-clause-refused c =

@@ -1,5 +1,5 @@
 -- Internal: what stands at the front of a text, as functions that compute it.
-use Rattle.std.specs.Prelude.{ℕ, ◌+◌, ◌-◌, ◌==◌, ◌&&◌, Bool, false, List, [], ◌∷◌, length, if◌then◌else◌, Option, Some, None}
+use Rattle.std.specs.Prelude.{ℕ, ◌+◌, ◌-◌, ◌==◌, ◌&&◌, Bool, true, false, List, [], ◌∷◌, length, if◌then◌else◌, Option, Some, None, codes}
 use Rattle.std.specs.Char.{is_ascii_digit}
 use Rattle.std.specs.List.{prefix_len}
 use Rattle.tsl_text.specs.declared.TokenKind.{TokenKind}
@@ -27,38 +27,27 @@ use Rattle.tsl_text.specs.declared.front.Piece.TheVariants.{Gap, Longest, OpenCo
 use Rattle.tsl_text.specs.Names.{is_name_start, is_name_byte}
 use Rattle.tsl_text.specs.Lines.{is_blank, is_line_byte}
 
-abbrev pub begins_with : ℕ → List ℕ → Bool
-begins_with byte [] = false
-begins_with byte (first ∷ rest) = first == byte
+-- the tokens that are written in one way, each before those that it begins with
+abbrev pub symbols : List (TokenKind × List ℕ)
+symbols = (OpenBrace, codes "{") ∷ (CloseBrace, codes "}") ∷ (OpenRound, codes "(") ∷ (CloseRound, codes ")")
+    ∷ (OpenSquare, codes "[") ∷ (CloseSquare, codes "]") ∷ (Semicolon, codes ";") ∷ (Not, codes "!") ∷ (Question, codes "?")
+    ∷ (Equals, codes "=") ∷ (And, codes "&&") ∷ (Or, codes "||") ∷ (Arrow, codes "->") ∷ (BothArrow, codes "<->")
+    ∷ (LeftArrow, codes "<-") ∷ []
 
--- a token of two bytes whose second one is this, if it follows
-abbrev pub pair_of : ℕ → TokenKind → List ℕ → Piece
-pair_of second kind rest = if begins_with second rest then Longest kind 2 else Nothing
+-- whether these bytes stand at the front
+abbrev pub begins_with : List ℕ → List ℕ → Bool
+begins_with [] text = true
+begins_with (byte ∷ bytes) [] = false
+begins_with (byte ∷ bytes) (first ∷ rest) = (first == byte) && begins_with bytes rest
 
--- the longest symbol that begins with `<`
-abbrev pub left_of : List ℕ → Piece
-left_of [] = Nothing
-left_of (second ∷ rest) = if second == 45 then (if begins_with 62 rest then Longest BothArrow 3 else Longest LeftArrow 2) else Nothing
+-- the first of these symbols that stands at the front
+abbrev pub first_symbol : List (TokenKind × List ℕ) → List ℕ → Piece
+first_symbol [] text = Nothing
+first_symbol (symbol ∷ more) text = if begins_with symbol.1 text then Longest symbol.0 (length symbol.1) else first_symbol more text
 
 -- the longest symbol at the front
 abbrev pub symbol_of : List ℕ → Piece
-symbol_of [] = Nothing
-symbol_of (first ∷ rest) =
-    if first == 123 then Longest OpenBrace 1
-    else (if first == 125 then Longest CloseBrace 1
-    else (if first == 40 then Longest OpenRound 1
-    else (if first == 41 then Longest CloseRound 1
-    else (if first == 91 then Longest OpenSquare 1
-    else (if first == 93 then Longest CloseSquare 1
-    else (if first == 59 then Longest Semicolon 1
-    else (if first == 33 then Longest Not 1
-    else (if first == 63 then Longest Question 1
-    else (if first == 61 then Longest Equals 1
-    else (if first == 38 then pair_of 38 And rest
-    else (if first == 124 then pair_of 124 Or rest
-    else (if first == 45 then pair_of 62 Arrow rest
-    else (if first == 60 then left_of rest
-    else Nothing)))))))))))))
+symbol_of text = first_symbol symbols text
 
 -- the bytes are `/*`
 abbrev pub begins_comment : ℕ → ℕ → Bool

@@ -3,13 +3,9 @@ use Rattle.sequence.proofs.Results.{handed_on}
 use Rattle.table_syntax.specs.View.{text_token_view, inputs_view}
 use Rattle.entry_names.specs.Entries.{column_subject_of}
 use Rattle.entry_names.proofs.Locate.{subjects_are}
-use Rattle.entry_names.proofs.NeededNames.{cells_within}
 use Rattle.table_interp.specs.Inputs.{HasRowCause}
 use Rattle.table_interp.proofs.Columns.{whole_columns, column_cause}
 use Rattle.table_interp.proofs.inputs.column_places.Goals as goal
-
-pub entry_places-requires : goal.entry_places-requires
-entry_places-requires c = cells_within c.args.names.now c.args.inputs.now c.requires.inputs
 
 pub returns-in_err-places-clause-cause : goal.returns-in_err-places-clause-cause
 returns-in_err-places-clause-cause c =

@@ -1,13 +1,11 @@
 use Rattle.std.proofs.Common.{◌<◌, length, sym, ◌∙◌}
 use Rattle.std.proofs.lemmas.List.Elements.{recursion_from_All}
 use Rattle.sequence.proofs.Results.{handed_on}
-use Rattle.sequence.proofs.Each.{each_left, each_right}
-use Rattle.std.specs.List.{AllByRecursion}
-use Rattle.table_interp.specs.Inputs.{HasRowCause, all_rows}
+use Rattle.table_interp.specs.Inputs.{HasRowCause}
 use Rattle.table_syntax.specs.View.{inputs_view, numbers_view}
 use Rattle.entry_names.proofs.NeededNames.{cells_within}
 use Rattle.table_interp.proofs.Columns.{numbers_are, have_places, order_stands}
-use Rattle.table_interp.proofs.Rows.{rows_below, rows_small, rows_given}
+use Rattle.table_interp.proofs.Rows.{stem_small, cycle_small, rows_given}
 use Rattle.table_interp.proofs.inputs.rows_from.Goals as goal
 
 pub returns-in_err-places-clause-cause : goal.returns-in_err-places-clause-cause
@@ -24,26 +22,17 @@ pub order_of-requires : goal.order_of-requires
 order_of-requires c =
     rw c.deref.ensures.value
     (have_places c.args.names.now c.args.inputs.now c.requires.inputs (inputs_view c.args.given.now) c.in_ok-places.places.items
-    c.in_ok-places.ensures.located
-    (recursion_from_All (λ s. s < length c.args.names.now) c.args.inputs.now
-    (cells_within c.args.names.now c.args.inputs.now c.requires.inputs))
-    c.in_ok-places.ensures.whole)
+    c.in_ok-places.ensures.located c.in_ok-places.ensures.whole)
 
 pub all_ordered-requires : goal.all_ordered-requires
 all_ordered-requires c =
-    rw c.deref-3.ensures.value
-    (rows_small c.args.domain c.ranges.domain.fits (numbers_view c.args.given.now.stem.items)
-    (each_left (λ r. AllByRecursion (λ v. v < c.args.domain) r) (numbers_view c.args.given.now.stem.items)
-    (numbers_view c.args.given.now.cycle.items)
-    (rows_below c.args.domain (all_rows (inputs_view c.args.given.now)) c.in_ok-check_values.ensures.ok.in_range)))
+    rw c.deref-3.ensures.value (stem_small c.args.domain c.ranges.domain.fits (numbers_view c.args.given.now.stem.items)
+    (numbers_view c.args.given.now.cycle.items) c.in_ok-check_values.ensures.ok.in_range)
 
 pub all_ordered-requires-2 : goal.all_ordered-requires-2
 all_ordered-requires-2 c =
-    rw c.deref-5.ensures.value
-    (rows_small c.args.domain c.ranges.domain.fits (numbers_view c.args.given.now.cycle.items)
-    (each_right (λ r. AllByRecursion (λ v. v < c.args.domain) r) (numbers_view c.args.given.now.stem.items)
-    (numbers_view c.args.given.now.cycle.items)
-    (rows_below c.args.domain (all_rows (inputs_view c.args.given.now)) c.in_ok-check_values.ensures.ok.in_range)))
+    rw c.deref-5.ensures.value (cycle_small c.args.domain c.ranges.domain.fits (numbers_view c.args.given.now.stem.items)
+    (numbers_view c.args.given.now.cycle.items) c.in_ok-check_values.ensures.ok.in_range)
 
 pub returns-clause-gives : goal.returns-clause-gives
 returns-clause-gives c =

@@ -6,14 +6,14 @@ use Rattle.tsl_text.proofs.places.place_of.Goals.{then-byte-eq10, else-byte-eq10
 pub loop-byte-preserved : goal.loop-byte-preserved
 loop-byte-preserved c =
     let bytes = take c.args.offset c.args.text.now in
-    let kept = c.loop-byte.invariant in
+    let l = c.loop-byte in
     elim c.if-byte-eq10.branch [
-      | then-byte-eq10 w ↦
-          let next = place_feed bytes c.loop-byte.byte-index c.loop-byte.line c.loop-byte.column c.if-byte-eq10.line c.if-byte-eq10.column
-          c.loop-byte-test.true w.if-byte-eq10.true w.line-is w.column-is kept.line in
-          record { line = next.0; column = next.1; within = omega arith }
-      | else-byte-eq10 w ↦
-          let next = place_byte bytes c.loop-byte.byte-index c.loop-byte.line c.loop-byte.column c.if-byte-eq10.line c.if-byte-eq10.column
-          c.loop-byte-test.true w.if-byte-eq10.false w.line-is w.column-is kept.line kept.column in
-          record { line = next.0; column = next.1; within = omega arith }
+      | then-byte-eq10 w ↦ rw (w.line-is, w.column-is) (record {
+        place = place_feed bytes l.byte-index l.line l.column c.loop-byte-test.true l.invariant.place w.if-byte-eq10.true;
+        within = omega arith;
+      })
+      | else-byte-eq10 w ↦ rw (w.line-is, w.column-is) (record {
+        place = place_byte bytes l.byte-index l.line l.column c.loop-byte-test.true l.invariant.place w.if-byte-eq10.false;
+        within = omega arith;
+      })
     ]
