@@ -26,8 +26,8 @@ use Rattle.program_listing.specs.Listing.{name_bytes, ListedLine}
 use Rattle.flow_program.specs.Rules.{places_rise, place_in, place_of_cell, listed_rise, is_cell_within}
 use Rattle.flow_program.specs.internal.Numbering.{small, numbered, numbered_term, numbered_listed}
 use Rattle.flow_program.proofs.NumberLemmas.{place_at, there_at, small_same, number_text, numbered_texts}
-use Rattle.flow_program.proofs.ValuesOfOptions.{held, map_holds, then_holds}
-use Rattle.flow_program.proofs.PairedLists.{Paired, none, next, paired_there, all_alike}
+use Rattle.sequence.proofs.ValuesOfOptions.{held, map_holds, then_holds}
+use Rattle.sequence.proofs.PairedLists.{Paired, none, next, paired_there, all_alike}
 
 -- ---- places of texts
 

@@ -28,8 +28,8 @@ use Rattle.program_tree.specs.Fits.{may_follow as may_stand_behind, are_in_order
 use Rattle.flow_program.specs.Rules.{same_surface, same_surfaces, is_equality_test, is_equality_within, may_follow, are_in_order}
 use Rattle.flow_program.specs.internal.Numbering.{small, numbered, numbered_term, numbered_terms, numbered_test, numbered_equated}
 use Rattle.flow_program.proofs.NumberLemmas.{place_at, small_same}
-use Rattle.flow_program.proofs.ValuesOfOptions.{Holds, held, map_holds, then_holds}
-use Rattle.flow_program.proofs.PairedLists.{Paired, none, next, paired_there, paired_with, all_alike}
+use Rattle.sequence.proofs.ValuesOfOptions.{Holds, held, map_holds, then_holds}
+use Rattle.sequence.proofs.PairedLists.{Paired, none, next, paired_there, paired_with, all_alike}
 
 module _ (names : List NameEntry) (text : List ℕ) where
   -- ---- parts of what has numbers

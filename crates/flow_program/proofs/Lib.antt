@@ -1,7 +1,5 @@
 mod Examples
 pub mod Held
-pub mod ValuesOfOptions
-pub mod PairedLists
 pub mod NumberLemmas
 pub mod UseLemmas
 pub mod WithUses
@@ -9,7 +7,7 @@ pub mod KnownUses
 pub mod CellPlaces
 pub mod SpelledLines
 pub mod EquatedLines
-pub mod MadeLists
+pub mod EachLine
 pub mod ResolvedTerms
 pub mod ResolvedLines
 pub mod ResolvedNodes

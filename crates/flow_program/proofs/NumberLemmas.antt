@@ -27,8 +27,8 @@ use Rattle.flow_program.specs.internal.Numbering.{small, numbered, numbered_term
 use Rattle.flow_program.specs.Rules.{place_in}
 use Rattle.flow_program.specs.internal.Numbering.{numbered_equated, numbered_left, numbered_window, numbered_node, listed_of, equated_of}
 use Rattle.flow_program.specs.internal.Numbering.{window_of}
-use Rattle.flow_program.proofs.ValuesOfOptions.{held, map_holds, then_holds}
-use Rattle.flow_program.proofs.PairedLists.{paired_there, paired_at, map_alike}
+use Rattle.sequence.proofs.ValuesOfOptions.{held, map_holds, then_holds}
+use Rattle.sequence.proofs.PairedLists.{paired_there, paired_at, map_alike}
 
 -- the one that is made of the member at a place
 pub there_at : {X Y : Type 0} (f : X → Option Y) (xs : List X) (ys : List Y) (i : ℕ) (x : X) → all_there (map f xs) ≡ Some ys →

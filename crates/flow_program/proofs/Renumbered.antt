@@ -22,7 +22,7 @@ use Rattle.flow_program.specs.internal.Numbering.{small, numbered, numbered_term
 use Rattle.flow_program.specs.internal.Numbering.{numbered_listed, numbered_equated, numbered_left}
 use Rattle.flow_program.specs.internal.Numbering.{numbered_window, Numbered}
 use Rattle.flow_program.proofs.NumberLemmas.{place_at}
-use Rattle.flow_program.proofs.ValuesOfOptions.{Agree, agreed, itself_agrees, map_agrees, then_agrees, all_agree}
+use Rattle.sequence.proofs.ValuesOfOptions.{Agree, agreed, itself_agrees, map_agrees, then_agrees, all_agree}
 use Rattle.flow_program.proofs.WrittenIsRead.ListingOfProgram.{ListingOfProgram, listing_of_program}
 use Rattle.flow_program.proofs.ReadingLaws.{is_listing_of, names_read_are_distinct}
 use Rattle.flow_program.proofs.Renamed.{renamed, all_renamed, probe_renamed, listed_renamed, equated_renamed, window_renamed}

@@ -34,7 +34,8 @@ use Rattle.flow_program.specs.internal.Numbering.{numbered, numbered_listed, num
 use Rattle.flow_program.specs.internal.Numbering.{numbered_window, listed_of, equated_of, window_of}
 use Rattle.flow_program.proofs.NumberLemmas.{listed_numbered, equated_numbered, window_numbered, small_is}
 pub use Rattle.flow_program.proofs.NumberLemmas.{place_at}
-use Rattle.flow_program.proofs.MadeLists.{each_good, all_made, each_made, all_pass, all_spelled}
+use Rattle.sequence.proofs.MadeLists.{all_made, each_made, all_pass}
+use Rattle.flow_program.proofs.EachLine.{each_good, all_spelled}
 use Rattle.flow_program.proofs.EquatedLines.{equality_of_test, are_equated, in_order_alike, tests_within, offsets_within}
 use Rattle.flow_program.proofs.CellPlaces.{are_listed, within_alike, rise_alike}
 use Rattle.flow_program.proofs.SpelledLines.{pieces_append, update_spelled, listed_spelled, placed_spelled, equated_spelled}

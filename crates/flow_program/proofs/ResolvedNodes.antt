@@ -24,7 +24,8 @@ use Rattle.flow_program.specs.ProgramText.{updates_text, node_text, nodes_text}
 use Rattle.flow_program.specs.Uses.{update_uses, node_uses}
 use Rattle.flow_program.specs.Rules.{are_texts, breaks_order, goes_nowhere, breaks_updates}
 use Rattle.flow_program.specs.internal.Numbering.{small, numbered_term, numbered_node}
-use Rattle.flow_program.proofs.MadeLists.{each_good, all_made, all_pass}
+use Rattle.sequence.proofs.MadeLists.{all_made, all_pass}
+use Rattle.flow_program.proofs.EachLine.{each_good}
 use Rattle.flow_program.proofs.NumberLemmas.{branch_numbered, assignment_numbered, small_is}
 use Rattle.flow_program.proofs.ResolvedTerms.{IsUsed, term_of, test_of, GoodTerm, good_term, term_writable, good_test, test_writable}
 use Rattle.flow_program.proofs.SpelledLines.{pieces_append, update_spelled, branch_spelled, assignment_spelled}

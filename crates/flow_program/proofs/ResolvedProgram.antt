@@ -46,7 +46,8 @@ use Rattle.flow_program.proofs.SpelledLines.{listing_spelled, states_spelled}
 use Rattle.flow_program.proofs.UsesStand.{uses_usable}
 use Rattle.flow_program.proofs.WithUses.{are_first}
 use Rattle.flow_program.proofs.CellPlaces.{place_of_number, second_once}
-use Rattle.flow_program.proofs.MadeLists.{lines_apart, all_made, each_made, all_pass, all_spelled}
+use Rattle.sequence.proofs.MadeLists.{all_made, each_made, all_pass}
+use Rattle.flow_program.proofs.EachLine.{lines_apart, all_spelled}
 use Rattle.flow_program.proofs.ResolvedTerms.{number_in, HasNumber, has_number, IsUsed, is_used, number_at}
 use Rattle.flow_program.proofs.ResolvedLines.{numbers_at, IsDeclared, numbers_spelled, all_numbered, numbers_fit, declared_text}
 use Rattle.flow_program.proofs.ResolvedLines.{distinct_numbers, window_with, GoodWindow, good_window}

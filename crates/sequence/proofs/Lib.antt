@@ -8,7 +8,12 @@ pub mod Passes
 pub mod Numbers
 pub mod Kept
 pub mod Gathered
+pub mod MadeLists
+pub mod PairedLists
+pub mod ValuesOfOptions
 pub mod Finds
 pub mod Bytes
 pub mod Orders
+pub mod Causes
+pub mod FirstStops
 mod Examples

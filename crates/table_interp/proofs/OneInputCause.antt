@@ -10,7 +10,8 @@ use Rattle.table_syntax.specs.Grammar.{IsInputs}
 use Rattle.table_syntax.specs.declared.forms.TextFault.TheVariants as fault
 use Rattle.table_syntax.proofs.Readings.{same_inputs}
 use Rattle.entry_names.specs.Needed.{number_for}
-use Rattle.entry_names.proofs.OneCause.{Causes, above, misread, told_with, told, after, and_then, misnamed}
+use Rattle.sequence.proofs.Causes.{Causes, above, told_with, told, after, and_then}
+use Rattle.entry_names.proofs.OneCause.{misread, misnamed}
 use Rattle.table_interp.specs.declared.TheConstants.{MOST_ROWS}
 use Rattle.table_interp.specs.declared.InputError.{InputError}
 use Rattle.table_interp.specs.declared.InputError.TheVariants as error

@@ -2,35 +2,16 @@
 use Rattle.std.proofs.Common.{◌≡◌, ◌∙◌, ℕ, List, [], ◌∷◌, ◌++◌, Err, refl, sym, ap, subst, inl, inr, append_assoc}
 use Rattle.std.specs.Prelude.{◌≢◌}
 use Rattle.std.proofs.lemmas.List.{map-append, append-nil}
-use Rattle.sequence.proofs.Lists.{heads, tails}
+use Rattle.sequence.proofs.FirstStops.{one_stop}
 use Rattle.tsl_text.specs.declared.Token.{Token}
 use Rattle.tsl_text.specs.declared.TextError.{TextError}
 use Rattle.tsl_text.specs.declared.TextError.TheVariants as bytes
 use Rattle.tsl_text.specs.Division.{AreTokens, IsAnswer}
-use Rattle.tsl_text.proofs.Parts.{one_answer}
+use Rattle.tsl_text.proofs.OneAnswer.{one_list, no_tokens, one_text_fault}
 use Rattle.table_syntax.specs.Syntax.{TextToken, text_token_at, text_tokens}
 use Rattle.table_syntax.specs.Forms.{IsRead, SomeTextBegins, HasFormFault, HasTextFault}
 use Rattle.table_syntax.specs.declared.forms.TextFault.{TextFault}
 use Rattle.table_syntax.specs.declared.forms.TextFault.TheVariants as fault
-use Rattle.table_syntax.proofs.Readings.{one_list, no_tokens}
-
--- ---- the first member with which no list of a kind begins
-
--- it stands at one place
-one_stop : {A : Type 0} (Begins : List A → Type 0) → ((p q : List A) → Begins (p ++ q) → Begins p) →
-    (b c : List A) (t u : A) (a e : List A) →
-    b ++ t ∷ a ≡ c ++ u ∷ e → Begins b → (Begins (b ++ t ∷ []) → ⊥) → Begins c → (Begins (c ++ u ∷ []) → ⊥) → (b ≡ c) × (t ≡ u)
-one_stop Begins shorter [] [] t u a e same first stops second ends = (refl, heads t u a e same)
-one_stop Begins shorter [] (y ∷ c) t u a e same first stops second ends =
-    absurd (stops (subst (λ z. Begins (z ∷ [])) (sym (heads t y a (c ++ u ∷ e) same)) (shorter (y ∷ []) c second)))
-one_stop Begins shorter (x ∷ b) [] t u a e same first stops second ends =
-    absurd (ends (subst (λ z. Begins (z ∷ [])) (heads x u (b ++ t ∷ a) e same) (shorter (x ∷ []) b first)))
-one_stop Begins shorter (x ∷ b) (y ∷ c) t u a e same first stops second ends =
-    let head : x ≡ y = heads x y (b ++ t ∷ a) (c ++ u ∷ e) same in
-    let rest = one_stop (λ zs. Begins (x ∷ zs)) (λ p q. shorter (x ∷ p) q) b c t u a e
-    (tails x y (b ++ t ∷ a) (c ++ u ∷ e) same) first stops
-    (subst (λ z. Begins (z ∷ c)) (sym head) second) (λ k. ends (subst (λ z. Begins (z ∷ (c ++ u ∷ []))) head k)) in
-    ((λ i. head i ∷ rest.0 i), rest.1)
 
 module _ {V : Type 0} (Is : List TextToken → V → Type 0) (text : List ℕ) where
   -- with fewer tokens some text begins too
@@ -72,11 +53,6 @@ module _ {V : Type 0} (Is : List TextToken → V → Type 0) (text : List ℕ) w
   one_form x y (inr h) (inr k) = h.place ∙ sym k.place
 
 -- ---- a fault of the bytes
-
-pub one_text_fault : (text : List ℕ) (a b : TextError) → IsAnswer text (Err a) → IsAnswer text (Err b) → a ≡ b
-one_text_fault text a b h k =
-    let same : Err a ≡ Err b = one_answer text (Err a) (Err b) h k in
-    cc
 
 -- a fault of the bytes, as it is told of a text
 abbrev told : TextError → TextFault

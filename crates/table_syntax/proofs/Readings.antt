@@ -1,10 +1,6 @@
 -- A text derives from one thing by a grammar, and from nothing where it has a fault.
 use Rattle.std.proofs.Common.{length, ◌≡◌, ℕ, ◌<◌, ◌≤◌, List, subst, arith}
-use Rattle.std.specs.Prelude.{Err, Ok}
-use Rattle.tsl_text.specs.declared.Token.{Token}
-use Rattle.tsl_text.specs.declared.TextError.{TextError}
-use Rattle.tsl_text.specs.Division.{AreTokens, IsAnswer}
-use Rattle.tsl_text.proofs.Parts.{one_answer}
+use Rattle.tsl_text.proofs.OneAnswer.{one_list}
 use Rattle.token_readers.specs.Readers.{Reader}
 use Rattle.token_readers.specs.Exact.{Exact}
 use Rattle.token_readers.proofs.Whole.{one_value}
@@ -14,16 +10,6 @@ use Rattle.table_syntax.specs.Grammar.{IsTables, tables, IsWords, words, IsInput
 use Rattle.table_syntax.specs.Forms.{IsRead}
 use Rattle.table_syntax.proofs.Exactness.{tables_exact, inputs_exact}
 use Rattle.table_syntax.proofs.WordExactness.{words_exact}
-
-pub one_list : (text : List ℕ) (a b : List Token) → AreTokens text a → AreTokens text b → a ≡ b
-one_list text a b h k =
-    let same : Ok a ≡ Ok b = one_answer text (Ok a) (Ok b) h k in
-    cc
-
-pub no_tokens : (text : List ℕ) (fault : TextError) → IsAnswer text (Err fault) → (tokens : List Token) → AreTokens text tokens → ⊥
-no_tokens text fault h tokens are =
-    let same : Err fault ≡ Ok tokens = one_answer text (Err fault) (Ok tokens) h are in
-    cc
 
 module _ {V : Type 0} {Is : List TextToken → V → Type 0} {reader : Reader TextToken V} (exact : Exact (λ r. Is) Never 0 reader) where
   -- a text gives one thing

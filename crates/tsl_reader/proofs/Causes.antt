@@ -1,12 +1,10 @@
 -- A text has one list of tokens, derives in one way, and spells one specification.
 use Rattle.std.proofs.Common.{◌≡◌, ℕ, ◌≤◌, List, ap, sym, ◌∙◌, subst}
 use Rattle.std.proofs.Common.{arith}
-use Rattle.std.specs.Prelude.{Some, Ok, Err}
+use Rattle.std.specs.Prelude.{Some}
 use Rattle.std.proofs.lemmas.Option.{same_Some}
 use Rattle.tsl_text.specs.declared.Token.{Token}
-use Rattle.tsl_text.specs.declared.TextError.{TextError}
-use Rattle.tsl_text.specs.Division.{AreTokens, IsAnswer}
-use Rattle.tsl_text.proofs.Parts.{one_answer}
+use Rattle.tsl_text.proofs.OneAnswer.{one_list}
 use Rattle.tsl_terms.specs.Name.{Name}
 use Rattle.tsl_terms.specs.FormulaTree.{FormulaTree}
 use Rattle.tsl_terms.specs.SpecTree.{SpecTree, whole_formula}
@@ -26,17 +24,6 @@ use Rattle.named_formulas.specs.TextExpansion.{Expands}
 use Rattle.named_formulas.specs.WellUsed.{as_written}
 use Rattle.named_formulas.proofs.OneExpansion.{one_expansion}
 use Rattle.declared_names.specs.Heads.{definitions_in}
-
--- a text has one list of tokens
-pub one_list : (text : List ℕ) (a b : List Token) → AreTokens text a → AreTokens text b → a ≡ b
-one_list text a b h k =
-    let same : Ok a ≡ Ok b = one_answer text (Ok a) (Ok b) h k in
-    cc
-
-pub no_tokens : (text : List ℕ) (fault : TextError) → IsAnswer text (Err fault) → (tokens : List Token) → AreTokens text tokens → ⊥
-no_tokens text fault h tokens are =
-    let same : Err fault ≡ Ok tokens = one_answer text (Err fault) (Ok tokens) h are in
-    cc
 
 -- a text derives from one list of sections and definitions, and its sections from one list of terminals
 pub one_derivation : (text : List ℕ) (a b : List Token) (own other : List Terminal) (ds es : List Declaration) → Derives text a own ds →

@@ -1,7 +1,6 @@
 mod Examples
 pub mod Causes
 pub mod FormFaults
-pub mod CausesInOrder
 pub mod OneCause
 pub mod SpelledFits
 pub mod UsePlaces

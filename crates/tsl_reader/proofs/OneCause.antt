@@ -4,14 +4,15 @@ use Rattle.std.proofs.lemmas.Bool.{cases_lt}
 use Rattle.std.proofs.lemmas.List.{map-append, append-nil}
 use Rattle.std.proofs.lemmas.Option.{same_Some}
 use Rattle.std.specs.Prelude.{None, Err, slice_get, position}
-use Rattle.sequence.proofs.Lists.{heads, tails}
+use Rattle.sequence.proofs.Causes.{Causes, after, and_then}
+use Rattle.sequence.proofs.FirstStops.{one_stop}
 use Rattle.sequence.proofs.Options.{none_never_some}
 use Rattle.sequence.proofs.Places.{slice_get_one}
 use Rattle.tsl_text.specs.declared.Token.{Token}
 use Rattle.tsl_text.specs.declared.TextError.{TextError}
 use Rattle.tsl_text.specs.declared.TextError.TheVariants.{Byte, OpenComment, NoMemory}
 use Rattle.tsl_text.specs.Division.{AreTokens, IsAnswer}
-use Rattle.tsl_text.proofs.Parts.{one_answer}
+use Rattle.tsl_text.proofs.OneAnswer.{one_list, no_tokens, one_text_fault}
 use Rattle.tsl_terms.specs.SpecTree.{SpecTree}
 use Rattle.tsl_reader.specs.declared.SpecError.{SpecError}
 use Rattle.tsl_reader.specs.declared.SpecError.TheVariants as error
@@ -25,8 +26,7 @@ use Rattle.declared_names.specs.WellDeclared.{heads_of, names_in, NoneOnCycle, i
 use Rattle.declared_names.proofs.Expanded.{no_deep_use}
 use Rattle.tsl_reader.specs.Spells.{deepest_level, Derives, IsDerived, Spells, HasFormFault, HasDeepFault, name_tokens, IsFirstName}
 use Rattle.tsl_reader.specs.Spells.{HasTooManyNodes, HasCause, SpellsNoSpec, IsOfText}
-use Rattle.tsl_reader.proofs.Causes.{one_list, one_derivation, no_tokens, nodes_refuse}
-use Rattle.tsl_reader.proofs.CausesInOrder.{Causes, after, and_then}
+use Rattle.tsl_reader.proofs.Causes.{one_derivation, nodes_refuse}
 use Rattle.tsl_reader.proofs.NamePlaces.{none_there}
 
 -- ---- the bytes
@@ -36,35 +36,15 @@ of_text (Byte at) = error.Byte at
 of_text (OpenComment at) = error.OpenComment at
 of_text NoMemory = error.NoMemory
 
-one_text : (text : List ℕ) (a b : TextError) → IsAnswer text (Err a) → IsAnswer text (Err b) → a ≡ b
-one_text text a b h k =
-    let same : Err a ≡ Err b = one_answer text (Err a) (Err b) h k in
-    cc
-
 abbrev byte_faults : List ℕ → Causes SpecError
 byte_faults text = record {
   Passes = (tokens : List Token) × AreTokens text tokens;
   Has = λ e. (fault : TextError) × IsAnswer text (Err fault) × (of_text fault ≡ e);
   refuses = λ e h read. no_tokens text h.0 h.1 read.0 read.1;
-  one = λ a b h k. sym h.2 ∙ ap of_text (one_text text h.0 k.0 h.1 k.1) ∙ k.2;
+  one = λ a b h k. sym h.2 ∙ ap of_text (one_text_fault text h.0 k.0 h.1 k.1) ∙ k.2;
 }
 
 -- ---- the first token that no text goes on with
-
--- the first member with which no list of a kind begins stands at one place
-one_stop : {A : Type 0} (Starts : List A → Type 0) → ((p q : List A) → Starts (p ++ q) → Starts p) →
-    (b c : List A) (t u : A) (a e : List A) → b ++ t ∷ a ≡ c ++ u ∷ e → Starts b → (Starts (b ++ t ∷ []) → ⊥) → Starts c → (Starts (c ++ u ∷ []) → ⊥) → (b ≡ c) × (t ≡ u)
-one_stop Starts shorter [] [] t u a e same first stops second ends = (refl, heads t u a e same)
-one_stop Starts shorter [] (y ∷ c) t u a e same first stops second ends =
-    absurd (stops (subst (λ z. Starts (z ∷ [])) (sym (heads t y a (c ++ u ∷ e) same)) (shorter (y ∷ []) c second)))
-one_stop Starts shorter (x ∷ b) [] t u a e same first stops second ends =
-    absurd (ends (subst (λ z. Starts (z ∷ [])) (heads x u (b ++ t ∷ a) e same) (shorter (x ∷ []) b first)))
-one_stop Starts shorter (x ∷ b) (y ∷ c) t u a e same first stops second ends =
-    let head : x ≡ y = heads x y (b ++ t ∷ a) (c ++ u ∷ e) same in
-    let rest = one_stop (λ zs. Starts (x ∷ zs)) (λ p q. shorter (x ∷ p) q) b c t u a e
-    (tails x y (b ++ t ∷ a) (c ++ u ∷ e) same) first stops (subst (λ z. Starts (z ∷ c)) (sym head) second)
-    (λ k. ends (subst (λ z. Starts (z ∷ (c ++ u ∷ []))) head k)) in
-    ((λ i. head i ∷ rest.0 i), rest.1)
 
 module _ (text : List ℕ) where
   abbrev Begins : List Token → Type 0

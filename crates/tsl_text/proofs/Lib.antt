@@ -2,6 +2,7 @@ pub mod Bytes
 pub mod Comments
 pub mod Pieces
 pub mod Parts
+pub mod OneAnswer
 pub mod PlaceLaws
 pub mod Examples
 pub mod LineLaws

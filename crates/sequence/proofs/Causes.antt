@@ -1,5 +1,7 @@
--- Causes of refusal that come in an order, each of which speaks of what passes those before it, put together of simple ones.
-use Rattle.std.proofs.Common.{◌≡◌, refl, subst, ◌⊎◌, inl, inr}
+-- What is refused has one cause. Causes that come in an order, each of which speaks of what passes those before it, are put
+-- together of simple ones.
+use Rattle.std.proofs.Common.{◌≡◌, ◌∙◌, ℕ, ◌<◌, ◌≤◌, Option, Some, None, refl, sym, ap, subst, arith, ◌⊎◌, inl, inr}
+use Rattle.sequence.proofs.Options.{none_never_some, one_value}
 
 -- what passes and what has a cause: nothing does both, and there is one cause
 pub record Causes (E : Type 0) : Type 1 where
@@ -7,6 +9,49 @@ pub record Causes (E : Type 0) : Type 1 where
   pub Has : E → Type 0
   pub refuses : (e : E) → Has e → Passes → ⊥
   pub one : (a b : E) → Has a → Has b → a ≡ b
+
+-- ---- simple causes
+
+-- something is found
+abbrev pub found : {X : Type 0} → Option X → Causes X
+found o = record {
+  Passes = o ≡ None;
+  Has = λ x. o ≡ Some x;
+  refuses = λ x is none. none_never_some o x none is;
+  one = one_value o;
+}
+
+-- a number is too large
+abbrev pub above : ℕ → ℕ → Causes (Unit {0})
+above most n = record {
+  Passes = n ≤ most;
+  Has = λ e. most < n;
+  refuses = λ e many few. omega (arith, many, few);
+  one = λ a b h k. refl;
+}
+
+-- ---- causes made of causes
+
+-- a cause, and what a look-up finds for it
+abbrev pub told_with : {X Y : Type 0} → Causes X → (X → Option Y) → Causes (X × Y)
+told_with c f = record {
+  Passes = c.Passes;
+  Has = λ p. c.Has p.0 × (f p.0 ≡ Some p.1);
+  refuses = λ p h pass. c.refuses p.0 h.0 pass;
+  one = λ p q h k.
+      let same : p.0 ≡ q.0 = c.one p.0 q.0 h.0 k.0 in
+      let beside : p.1 ≡ q.1 = one_value (f q.0) p.1 q.1 (sym (ap f same) ∙ h.1) k.1 in
+      λ i. (same i, beside i);
+}
+
+-- causes in other words
+abbrev pub told : {X E : Type 0} → (X → E) → Causes X → Causes E
+told {X = X} f c = record {
+  Passes = c.Passes;
+  Has = λ e. (x : X) × c.Has x × (f x ≡ e);
+  refuses = λ e h pass. c.refuses h.0 h.1 pass;
+  one = λ a b h k. sym h.2 ∙ ap f (c.one h.0 k.0 h.1 k.1) ∙ k.2;
+}
 
 module _ {E V : Type 0} (first : Causes E) (at : first.Passes → V) (one_at : (p q : first.Passes) → at p ≡ at q) (rest : V → Causes E) where
   abbrev pub HasOneOf : E → Type 0

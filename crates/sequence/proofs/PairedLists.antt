@@ -1,4 +1,4 @@
--- Lists whose members stand in a relation one by one, as lines and what they become with numbers.
+-- Lists whose members stand in a relation one by one.
 use Rattle.std.proofs.Common.{◌≡◌, ℕ, zero, suc, Bool, ◌&&◌, List, [], ◌∷◌, map, refl, subst}
 use Rattle.std.specs.Prelude.{Option, Some, None, slice_get}
 use Rattle.std.specs.List.{list_all, AllByRecursion}
