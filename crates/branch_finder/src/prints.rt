@@ -1,9 +1,7 @@
 //! Prints of states: which equalities are true in them.
 
-ghost use Rattle.std.specs.Prelude.{◌≡◌, ◌<◌, ◌≤◌, ◌↔◌, ◌==◌, ◌||◌, ◌&&◌, ℕ, length, bit_and, IsTrue, IfOk};
+ghost use Rattle.std.specs.Prelude.{◌≡◌, ◌<◌, ◌≤◌, ◌↔◌, ◌==◌, ◌||◌, ◌&&◌, ℕ, length, bit_and, IfOk};
 ghost use Rattle.ltl_formula.specs.Cubes.{has_bit};
-ghost use Rattle.tsl_terms.specs.TermTree.{term_trees, probe_tree, count_of_terms};
-ghost use Rattle.tsl_terms.specs.Congruence.{IsEquality};
 ghost use Rattle.letter_space.specs.SpaceView.{space_tree};
 ghost use Rattle.machines.specs.MachineView.{environment_tree};
 ghost use Rattle.branch_finder.specs.internal.Prints.{AreEqualityBits, ArePrints};
@@ -13,7 +11,7 @@ use letter_space::Space;
 use machines::Environment;
 use sequence::NoMemory;
 use std::alloc::Global;
-use tsl_terms::{Probe, TermList};
+use tsl_terms::is_equality;
 
 /// Whether a bit is set.
 pub(crate) fn is_set(bits: u32, bit: u32) -> bool
@@ -42,46 +40,6 @@ pub(crate) fn bit_wanted(bit: u32, wanted: bool) -> Wanted
         return Wanted { mask, bits: mask };
     }
     Wanted { mask, bits: 0 }
-}
-
-/// Whether there are two terms.
-fn are_two(terms: &TermList) -> bool
-    ensures { result ≡ (count_of_terms (term_trees terms.now) == 2) }
-{
-    match terms {
-        TermList::More(_, rest) => is_one(rest),
-        TermList::Empty => false,
-    }
-}
-
-/// Whether there is one term.
-fn is_one(terms: &TermList) -> bool
-    ensures { result ≡ (count_of_terms (term_trees terms.now) == 1) }
-{
-    match terms {
-        TermList::More(_, rest) => is_none(rest),
-        TermList::Empty => false,
-    }
-}
-
-/// Whether there is no term.
-fn is_none(terms: &TermList) -> bool
-    ensures { result ≡ (count_of_terms (term_trees terms.now) == 0) }
-{
-    match terms {
-        TermList::More(_, _) => false,
-        TermList::Empty => true,
-    }
-}
-
-/// Whether a probe is one of two arguments of the predicate that is equality.
-fn is_equality(equality: Option<u32>, probe: &Probe) -> bool
-    ensures { IsTrue result ↔ IsEquality equality (probe_tree probe.now) }
-{
-    match equality {
-        Some(predicate) => predicate == probe.predicate && are_two(&probe.arguments),
-        None => false,
-    }
 }
 
 /// Bits with one more where it belongs there.

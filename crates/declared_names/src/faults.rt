@@ -2,7 +2,6 @@
 
 ghost use Rattle.std.specs.Prelude.{◌≡◌, ◌+◌, ◌<◌, ◌≤◌, ◌^◌, length, map, position, IfOk, OnOk};
 ghost use Rattle.tsl_terms.specs.declared.names.NameKind.TheVariants.{Signal};
-ghost use Rattle.tsl_terms.specs.Name.{same_kind};
 ghost use Rattle.tsl_terms.specs.Clashes.{with_uses, first_uses, alike_in_kind, same_arity};
 ghost use Rattle.declared_names.specs.Faults.{is_plain, is_used, is_head, is_head_of};
 ghost use Rattle.declared_names.specs.Faults.{is_redefined, plain_name};
@@ -15,7 +14,7 @@ use crate::defined::add_name;
 use crate::occurrence::{ReadOccurrence, Role};
 use sequence::NoMemory;
 use std::alloc::Global;
-use tsl_terms::{NameKind, Names};
+use tsl_terms::{NameKind, Names, same_kind};
 
 /// The deepest level.
 const DEEPEST: u32 = 200;
@@ -79,18 +78,6 @@ pub fn plain_names(alloc: Global, occurrences: &[ReadOccurrence]) -> Result<Name
         add_plain(&mut names, occurrence)?;
     }
     Ok(names)
-}
-
-/// Whether two kinds are the same one.
-fn same_kind(left: NameKind, right: NameKind) -> bool
-    ensures { result ≡ same_kind left right }
-{
-    match (left, right) {
-        (NameKind::Signal, NameKind::Signal)
-        | (NameKind::Function, NameKind::Function)
-        | (NameKind::Predicate, NameKind::Predicate) => true,
-        _ => false,
-    }
 }
 
 /// Whether there is a name with its text that is of another kind.

@@ -2,7 +2,6 @@
 
 ghost use Rattle.std.specs.Prelude.{◌≡◌, ◌<◌, Some, is_some, option_map, length, map, slice_get, All, IfOk, IfErr, IfSome, IsSomeAnd};
 ghost use Rattle.std.specs.List.{find};
-ghost use Rattle.tsl_terms.specs.Name.{same_kind};
 ghost use Rattle.sequence.specs.Options.{passes};
 ghost use Rattle.table_syntax.specs.View.{text_token_view};
 ghost use Rattle.entry_names.specs.Needed.{number_for, is_for};
@@ -14,7 +13,7 @@ use crate::numbering::{RepeatFault, marks, place_of, places};
 use sequence::NoMemory;
 use std::alloc::{AllocFailed, Global};
 use table_syntax::TextToken;
-use tsl_terms::{NameKind, Names};
+use tsl_terms::{NameKind, Names, same_kind};
 use tsl_text::Token;
 
 /// Why entries are not for the needed names, one for each. Offsets count bytes from 0. The first cause in
@@ -49,18 +48,6 @@ impl<T: Drop> From<AllocFailed<T>> for EntryFault {
 
     fn from(_error: AllocFailed<T>) -> EntryFault {
         EntryFault::NoMemory
-    }
-}
-
-/// Whether two kinds are the same one.
-fn same_kind(left: NameKind, right: NameKind) -> bool
-    ensures { result ≡ same_kind left right }
-{
-    match (left, right) {
-        (NameKind::Signal, NameKind::Signal)
-        | (NameKind::Function, NameKind::Function)
-        | (NameKind::Predicate, NameKind::Predicate) => true,
-        _ => false,
     }
 }
 

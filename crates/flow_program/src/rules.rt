@@ -2,7 +2,7 @@
 
 ghost use Rattle.std.specs.Prelude.{◌≡◌, ℕ, ◌+◌, ◌<◌, ◌^◌, ◌++◌, ◌&&◌, length, map, find, option_map, drop, IfOk, IsTrue};
 ghost use Rattle.std.specs.List.{list_all};
-ghost use Rattle.tsl_terms.specs.Name.{texts, same_kind, AreDistinct};
+ghost use Rattle.tsl_terms.specs.Name.{texts, AreDistinct};
 ghost use Rattle.tsl_terms.specs.Clashes.{alike_in};
 ghost use Rattle.program_listing.specs.internal.NamesStand.{ListingStands};
 ghost use Rattle.program_listing.specs.Listing.{name_bytes};
@@ -25,7 +25,7 @@ use program_listing::{
 use program_tree::{LONGEST_WINDOW, MOST_NODES, MOST_STATES, MOST_WINDOWS};
 use sequence::NoMemory;
 use std::alloc::Global;
-use tsl_terms::{NameKind, Names, Quality};
+use tsl_terms::{NameKind, Names, Quality, same_kind};
 
 /// The number of the first line of a node.
 pub(crate) fn first_node(listing: &ProgramSyntax) -> u32
@@ -347,18 +347,6 @@ fn first_unknown<'a>(readable: &Names, uses: &[SpelledUse<'a>]) -> Option<Spelle
         }
     }
     None
-}
-
-/// Whether two kinds are the same one.
-fn same_kind(left: NameKind, right: NameKind) -> bool
-    ensures { result ≡ same_kind left right }
-{
-    match (left, right) {
-        (NameKind::Signal, NameKind::Signal)
-        | (NameKind::Function, NameKind::Function)
-        | (NameKind::Predicate, NameKind::Predicate) => true,
-        _ => false,
-    }
 }
 
 /// Whether the names have the text of a use and are not like it.

@@ -1,18 +1,18 @@
 -- Numbers and runs of bytes are leaves.
-use Rattle.std.proofs.Common.{◌≡◌, ℕ, ◌+◌, ◌-◌, ◌*◌, ◌^◌, ◌<◌, Bool, true, false, ◌&&◌, ◌||◌, cond, leb, List, [], ◌∷◌, ◌++◌, length, take}
+use Rattle.std.proofs.Common.{◌≡◌, ℕ, ◌+◌, ◌^◌, ◌<◌, Bool, true, false, ◌&&◌, ◌||◌, cond, leb, List, [], ◌∷◌, ◌++◌, length, take}
 use Rattle.std.proofs.Common.{drop, decimal, Option, Some, None, refl, sym, ap, subst, ◌∙◌, arith, take-append-drop}
-use Rattle.std.specs.Prelude.{fold, if◌then◌else◌}
+use Rattle.std.specs.Prelude.{if◌then◌else◌}
 use Rattle.std.specs.Char.{is_ascii_digit}
 use Rattle.std.specs.List.{list_all, prefix_len}
 use Rattle.std.proofs.Math.Seq.{take-append_seam, drop-append_seam}
-use Rattle.std.proofs.lemmas.Bool.{and_parts, and_from, not-true, cond-true, cond-false, leb-true, le-leb, lt-ltb, ltb-true}
+use Rattle.std.proofs.lemmas.Bool.{and_parts, and_from, not-true, cond-true, cond-false, leb-true, lt-ltb, ltb-true}
 use Rattle.std.proofs.lemmas.Option.{none-some, same_Some}
-use Rattle.std.proofs.lemmas.Str.Parse.{IsDigitsTest, FoldsDigits, IsNumeralModel, numerals_by_fold, digits_value_short}
+use Rattle.std.proofs.lemmas.Str.Parse.{digits_value_short}
 use Rattle.std.proofs.lemmas.Fmt.{decimal_nonempty}
 use Rattle.sequence.proofs.Passes.{list_all-prefix}
 use Rattle.tsl_text.specs.Lines.{has_bytes, is_line_byte}
 use Rattle.tsl_text.specs.Numbers.{is_digits, value_of, number_in, has_leading_zero, plain_number_in}
-use Rattle.tsl_text.proofs.NumberLaws.{decimal_digits, decimal_is_read, read_is_decimal}
+use Rattle.tsl_text.proofs.NumberLaws.{numerals, decimal_digits, decimal_is_read, read_is_decimal}
 use Rattle.line_formats.specs.Format.{Bytes, one_byte, are_apart, has, stops}
 use Rattle.line_formats.specs.Leaves.{digits, with_rest, number_of_length, first_number, number, run_of_length, first_run, run}
 use Rattle.line_formats.proofs.FormatLaws.{First, IsLeaf, apart_byte}
@@ -81,26 +81,6 @@ run_is_leaf set ok apart = record { sound = sound; first = first; again = again;
 
 -- ---- numbers
 
-abbrev AreDigits : List ℕ → Type 0
-AreDigits ds = list_all is_ascii_digit ds ≡ true
-
-tests_digits : IsDigitsTest AreDigits
-tests_digits = record {
-  empty = refl;
-  parts = λ c cs h.
-      let parts = and_parts (is_ascii_digit c) (list_all is_ascii_digit cs) h in
-      let range = and_parts (leb 48 c) (leb c 57) parts.0 in
-      ((leb-true 48 c range.0, leb-true c 57 range.1), parts.1);
-  more = λ c cs range rest. and_from (is_ascii_digit c) (list_all is_ascii_digit cs)
-      (and_from (leb 48 c) (leb c 57) (le-leb 48 c range.0) (le-leb c 57 range.1)) rest;
-}
-
-folds_digits : FoldsDigits (λ n ds. fold (λ value digit. value * 10 + (digit - 48)) n ds)
-folds_digits = record { empty = λ n. refl; more = λ n c cs range. refl }
-
-own : IsNumeralModel AreDigits value_of
-own = numerals_by_fold AreDigits tests_digits (λ n ds. fold (λ value digit. value * 10 + (digit - 48)) n ds) folds_digits
-
 -- a number that is read has at most 18 digits
 pub read_is_short : (ds : List ℕ) (n : ℕ) → plain_number_in ds ≡ Some n → n < 10 ^ 18
 read_is_short ds n e = by_zero (has_leading_zero ds) e where
@@ -109,7 +89,7 @@ read_is_short ds n e = by_zero (has_leading_zero ds) e where
   by_test true passed h =
       let parts = and_parts (is_digits ds) (leb (length ds) 18) passed in
       let digits = and_parts (has_bytes ds) (list_all is_ascii_digit ds) parts.0 in
-      let few : value_of ds < 10 ^ 18 = digits_value_short own ds 18 digits.1 (leb-true (length ds) 18 parts.1) in
+      let few : value_of ds < 10 ^ 18 = digits_value_short numerals ds 18 digits.1 (leb-true (length ds) 18 parts.1) in
       let P : ℕ → Type 0 = λ k. k < 10 ^ 18 in
       subst P (same_Some (value_of ds) n h) few
 

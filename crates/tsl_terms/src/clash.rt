@@ -1,11 +1,11 @@
 //! Uses of names, and the first that is not like the first use of its name.
 
 ghost use Rattle.std.specs.Prelude.{◌≡◌, ◌+◌, ◌<◌, ◌^◌, None, length, map, IfOk, OnOk, MatchOption};
-ghost use Rattle.tsl_terms.specs.Name.{number_of, same_kind};
+ghost use Rattle.tsl_terms.specs.Name.{number_of};
 ghost use Rattle.tsl_terms.specs.Clashes.{name_use, with_use, first_uses, alike_in, IsFirstClash, HasNoClash};
 ghost use Rattle.tsl_terms.specs.internal.FirstUse.{differs_from};
 
-use crate::names::{NameKind, Names};
+use crate::names::{NameKind, Names, same_kind};
 use sequence::NoMemory;
 use std::alloc::Global;
 
@@ -51,18 +51,6 @@ fn add_use(names: &mut Names, usage: &NameUse) -> Result<(), NoMemory>
         names.add(usage.text, usage.kind, usage.arity)?;
     }
     Ok(())
-}
-
-/// Whether two kinds are the same one.
-fn same_kind(left: NameKind, right: NameKind) -> bool
-    ensures { result ≡ same_kind left right }
-{
-    match (left, right) {
-        (NameKind::Signal, NameKind::Signal)
-        | (NameKind::Function, NameKind::Function)
-        | (NameKind::Predicate, NameKind::Predicate) => true,
-        _ => false,
-    }
 }
 
 /// Whether the first uses have the text of a use and are not like it.

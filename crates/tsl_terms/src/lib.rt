@@ -63,7 +63,7 @@ pub use choosing::{choices, some_term_reads, term_reads};
 pub use clash::{NameUse, Quality, first_clash, first_uses};
 pub use copy::{copy_formula, copy_probe, copy_term, copy_window};
 pub use counting::{node_count, whole_node_count};
-pub use equality::equality_of;
+pub use equality::{equality_of, is_equality};
 pub use formula::{Formula, FormulaList};
 pub use gathering::predicates;
 pub use joining::whole;
@@ -72,7 +72,7 @@ pub use laws::{
     same_tree_is_equality, signals_are_told_apart, whole_formula_has_the_atoms,
     windowed_formulas_have_the_atoms,
 };
-pub use names::{NameKind, Names};
+pub use names::{NameKind, Names, same_kind};
 pub use operator::{BinaryOperator, ManyOperator, UnaryOperator};
 pub use parts::FormulaParts;
 pub use same::{same_probe, same_term};

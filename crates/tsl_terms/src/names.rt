@@ -1,7 +1,7 @@
 //! The names of a specification or a program, numbered by first appearance.
 
 ghost use Rattle.std.specs.Prelude.{◌≡◌, ◌+◌, ◌<◌, ◌^◌, ◌∷◌, ◌++◌, [], None, length, slice_get, IfOk, OnOk, OnErr, IsSomeAnd};
-ghost use Rattle.tsl_terms.specs.Name.{number_of, AreDistinct};
+ghost use Rattle.tsl_terms.specs.Name.{number_of, same_kind, AreDistinct};
 
 use indexmap::IndexMap;
 use sequence::NoMemory;
@@ -17,6 +17,18 @@ pub enum NameKind {
     Function,
     /// A function of values to a truth.
     Predicate,
+}
+
+/// Whether two kinds are the same one.
+pub fn same_kind(left: NameKind, right: NameKind) -> bool
+    ensures { result ≡ same_kind left right }
+{
+    match (left, right) {
+        (NameKind::Signal, NameKind::Signal)
+        | (NameKind::Function, NameKind::Function)
+        | (NameKind::Predicate, NameKind::Predicate) => true,
+        _ => false,
+    }
 }
 
 /// What a name's text stands for, and how many arguments it takes.

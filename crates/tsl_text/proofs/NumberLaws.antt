@@ -19,7 +19,7 @@ use Rattle.tsl_text.specs.Numbers.{is_digits, value_of, number_in, has_leading_z
 use Rattle.tsl_text.proofs.Fronts.{begins, one_run}
 
 -- the digits of this crate are those of std
-abbrev AreDigits : List ℕ → Type 0
+abbrev pub AreDigits : List ℕ → Type 0
 AreDigits ds = list_all is_ascii_digit ds ≡ true
 
 tests_digits : IsDigitsTest AreDigits
@@ -36,11 +36,11 @@ tests_digits = record {
 folds_digits : FoldsDigits (λ n ds. fold (λ value digit. value * 10 + (digit - 48)) n ds)
 folds_digits = record { empty = λ n. refl; more = λ n c cs range. refl }
 
-own : IsNumeralModel AreDigits value_of
-own = numerals_by_fold AreDigits tests_digits (λ n ds. fold (λ value digit. value * 10 + (digit - 48)) n ds) folds_digits
+pub numerals : IsNumeralModel AreDigits value_of
+numerals = numerals_by_fold AreDigits tests_digits (λ n ds. fold (λ value digit. value * 10 + (digit - 48)) n ds) folds_digits
 
 pub decimal_digits : (n : ℕ) → n < 2 ^ 64 → list_all is_ascii_digit (decimal n) ≡ true
-decimal_digits n small = digits_decimal own n small
+decimal_digits n small = digits_decimal numerals n small
 
 some_bytes : (ds : List ℕ) → 0 < length ds → has_bytes ds ≡ true
 some_bytes [] some = absurd (omega arith)
@@ -86,7 +86,7 @@ decimal_is_read n below =
     let few : leb (length (decimal n)) 18 ≡ true = le-leb (length (decimal n)) 18 (length-decimal-le 18 n (omega arith) below small) in
     ap (λ b. cond b None (number_in (decimal n))) (decimal_plain n small).plain
     ∙ (ap (λ b. cond b (Some (value_of (decimal n))) None) (and_from (is_digits (decimal n)) (leb (length (decimal n)) 18) digits few)
-    ∙ ap Some (digits_value-decimal own n small))
+    ∙ ap Some (digits_value-decimal numerals n small))
 
 -- and no other text without leading zeros is read as the number
 pub read_is_decimal : (word : List ℕ) (n : ℕ) → plain_number_in word ≡ Some n → word ≡ decimal n
@@ -104,8 +104,8 @@ read_is_decimal word n e = by_zero (has_leading_zero word) refl e
         let parts = and_parts (is_digits word) (leb (length word) 18) passed in
         let digits = and_parts (has_bytes word) (list_all is_ascii_digit word) parts.0 in
         let value : value_of word ≡ n = cc in
-        let few : value_of word < 10 ^ 18 = digits_value_short own word 18 digits.1 (leb-true (length word) 18 parts.1) in
-        sym (decimal-digits_value own word digits.1 (has_length word digits.0) (lead word plain) (omega (arith, few))) ∙ ap decimal value
+        let few : value_of word < 10 ^ 18 = digits_value_short numerals word 18 digits.1 (leb-true (length word) 18 parts.1) in
+        sym (decimal-digits_value numerals word digits.1 (has_length word digits.0) (lead word plain) (omega (arith, few))) ∙ ap decimal value
       where
         has_length : (ds : List ℕ) → has_bytes ds ≡ true → 0 < length ds
         has_length [] h = absurd cc
