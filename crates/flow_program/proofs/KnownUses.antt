@@ -1,6 +1,6 @@
 -- The names of a text know each use: its number names what it is used as.
 use Rattle.std.proofs.Common.{rules, ◌≡◌, ℕ, ◌==◌, Bool, true, false, not, cond, List, [], ◌∷◌, ◌++◌, refl, ap, sym, subst, ◌∙◌}
-use Rattle.std.specs.Prelude.{Option, Some, None, slice_get, flat_map, option_and_then, IsTrue}
+use Rattle.std.specs.Prelude.{Option, Some, slice_get, flat_map, IsTrue}
 use Rattle.std.specs.List.{list_all, AllByRecursion}
 use Rattle.std.specs.Option.{option_map_or}
 use Rattle.std.proofs.lemmas.Bool.{and_parts, or_left, not-false}
@@ -9,31 +9,15 @@ use Rattle.sequence.proofs.Passes.{passes_at, list_all_joined}
 use Rattle.sequence.specs.Numbers.{is_among}
 use Rattle.tsl_text.specs.Names.{is_usable}
 use Rattle.tsl_terms.specs.declared.names.NameKind.TheVariants.{Predicate}
-use Rattle.tsl_terms.specs.Name.{Name, number_of, same_kind, question, AreDistinct}
+use Rattle.tsl_terms.specs.Name.{Name, same_kind, question, AreDistinct}
 use Rattle.tsl_terms.specs.Clashes.{alike_in_kind, same_arity}
 use Rattle.tsl_terms.specs.WellFormed.{name_fits}
 use Rattle.tsl_terms.specs.internal.FirstUse.{name_with}
+use Rattle.tsl_terms.proofs.KnownNames.{Known, known_of}
 use Rattle.tsl_terms.proofs.FirstUses.{first_of, first_some, named_first, FirstAt, first_at}
 use Rattle.flow_program.specs.Uses.{ProgramUse, question_entry, entries_of_use, names_after}
 use Rattle.flow_program.specs.Rules.{is_unlike}
 use Rattle.flow_program.proofs.WithUses.{are_first}
-
--- the number of a use names it in its kind and with its number of arguments
-pub record Known (names : List Name) (u : Name) : Type 0 where
-  pub number : ℕ
-  pub entry : Name
-  pub numbered : number_of names u.text ≡ Some number
-  pub there : slice_get names number ≡ Some entry
-  pub text : entry.text ≡ u.text
-  pub kind : same_kind entry.kind u.kind ≡ true
-  pub arity : (entry.arity == u.arity) ≡ true
-
-known_of : (names : List Name) (u f : Name) → name_with names u.text ≡ Some f → f.text ≡ u.text → alike_in_kind f u ≡ true →
-    same_arity f u ≡ true → Known names u
-known_of names u f found text kind arity = by (number_of names u.text) refl found where
-  by : (number : Option ℕ) → number_of names u.text ≡ number → option_and_then (slice_get names) number ≡ Some f → Known names u
-  by None e g = absurd (cc)
-  by (Some k) e g = record { number = k; entry = f; numbered = e; there = g; text = text; kind = kind; arity = arity }
 
 -- what holds of all members of parts holds of those of each part
 each_part : {X Y : Type 0} (P : X → Type 0) (f : Y → List X) (ys : List Y) → AllByRecursion P (flat_map f ys) →

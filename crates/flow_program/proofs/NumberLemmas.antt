@@ -14,11 +14,10 @@ use Rattle.std.proofs.lemmas.List.Quantifiers.{position-Some}
 use Rattle.std.proofs.lemmas.Option.{slice_get-get_or}
 use Rattle.sequence.proofs.Bytes.{same_bytes}
 use Rattle.sequence.specs.Options.{all_there}
-use Rattle.sequence.proofs.Lists.{with_front, with_front_push}
 use Rattle.tsl_terms.specs.declared.term.Term.{Term}
 use Rattle.tsl_terms.specs.Name.{Name}
-use Rattle.tsl_terms.specs.TermTree.{TermTree, ProbeTree, TermTrees, no_terms, more_terms, terms_of, term_tree}
-use Rattle.tsl_terms.proofs.TermLemmas.{with_front_none}
+use Rattle.tsl_terms.specs.TermTree.{TermTree, ProbeTree, more_terms, term_tree}
+use Rattle.tsl_terms.proofs.NumberedTerms.{numbered_front, front_more}
 use Rattle.tsl_terms.specs.WindowTree.{ListedTree, EquatedTree}
 use Rattle.program_listing.specs.Listing.{SurfaceTermTree, SurfaceTermTrees, more_surfaces, UpdateLine, ListedLine, PlacedLine, WindowLine}
 use Rattle.program_listing.specs.Listing.{branch_line, assignment_line, left_step}
@@ -48,25 +47,12 @@ place_at all bytes i is =
     let found = position-Some (bytes_eq bytes) all i [] is in
     slice_get-get_or all i [] found.0 ∙ ap Some (sym (same_bytes bytes (get_or all i []) found.1))
 
-abbrev pub numbered_front : List TermTree → Option TermTrees → Option TermTrees
-numbered_front front rest = option_map (with_front more_terms front) rest
-
 -- one term more
 pub numbered_more : (names : List Name) (text : List ℕ) (front all : List Term) (t : Term) (p : SurfaceTermTree) (rest : SurfaceTermTrees) →
     all ≡ front ++ t ∷ [] → numbered_term names text p ≡ Some (term_tree t) →
     numbered_front (map term_tree all) (numbered_terms names text rest)
     ≡ numbered_front (map term_tree front) (numbered_terms names text (more_surfaces p rest))
-numbered_more names text front all t p rest is h = rw (is, h) (by (numbered_terms names text rest)) where
-  by : (found : Option TermTrees) →
-      numbered_front (map term_tree (front ++ t ∷ [])) found ≡ numbered_front (map term_tree front) (option_map (more_terms
-      (term_tree t)) found)
-  by (Some ts) = ap Some (with_front_push more_terms term_tree front t ts)
-  by None = refl
-
--- the terms are all
-pub numbered_all : (front : List TermTree) (all : Option TermTrees) (list : TermTrees) → numbered_front front (Some no_terms) ≡ all →
-    list ≡ terms_of front → all ≡ Some list
-numbered_all front all list h is = sym h ∙ ap Some (with_front_none front ∙ sym is)
+numbered_more names text front all t p rest is h = rw (is, h) (front_more more_terms term_tree front t (numbered_terms names text rest))
 
 module _ (names : List Name) (text : List ℕ) where
   pub listed_numbered : (u : ListedLine) (s : ℕ) (t : TermTree) → numbered names text u.signal ≡ Some s →

@@ -41,7 +41,8 @@ use Rattle.flow_program.specs.Rules.{first_place, first_line, breaks_order, goes
 use Rattle.flow_program.specs.Rules.{place_in, cell_texts, readable_of, controlled_of, is_unknown, is_unlike, at_line, over, first_there}
 use Rattle.flow_program.specs.Rules.{line_fault, limit_fault, fault_of}
 use Rattle.flow_program.specs.internal.Numbering.{numbered_window, numbered_node, Numbered}
-use Rattle.flow_program.proofs.KnownUses.{Known, known_name, known_question}
+use Rattle.tsl_terms.proofs.KnownNames.{Known}
+use Rattle.flow_program.proofs.KnownUses.{known_name, known_question}
 use Rattle.flow_program.proofs.SpelledLines.{listing_spelled, states_spelled}
 use Rattle.flow_program.proofs.UsesStand.{uses_usable}
 use Rattle.flow_program.proofs.WithUses.{are_first}

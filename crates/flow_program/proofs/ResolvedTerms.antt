@@ -28,7 +28,7 @@ use Rattle.program_listing.specs.LineText.{word, argument_pieces, surface_pieces
 use Rattle.program_listing.proofs.ListingFacts.{pieces_text}
 use Rattle.flow_program.specs.Uses.{ProgramUse, read_use, tested_use, applied_use, term_uses, terms_uses, test_uses, question_entry}
 use Rattle.flow_program.specs.internal.Numbering.{numbered_term, numbered_terms, numbered_test, probe_with}
-use Rattle.flow_program.proofs.KnownUses.{Known}
+use Rattle.tsl_terms.proofs.KnownNames.{Known}
 use Rattle.flow_program.proofs.SpelledLines.{pieces_append}
 
 -- ---- names with their numbers

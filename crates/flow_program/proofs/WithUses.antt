@@ -15,21 +15,13 @@ use Rattle.sequence.proofs.Passes.{list_all_push}
 use Rattle.tsl_terms.specs.Name.{Name, number_of, AreDistinct}
 use Rattle.tsl_terms.specs.Clashes.{added_unless_found, with_use, with_uses, first_uses}
 use Rattle.tsl_terms.specs.WellFormed.{name_fits}
+use Rattle.tsl_terms.proofs.FirstUses.{grows}
 use Rattle.tsl_terms.proofs.NameLemmas.{absent_before}
 
 -- uses in two parts
 pub with_uses_append : (names xs ys : List Name) → with_uses names (xs ++ ys) ≡ with_uses (with_uses names xs) ys
 with_uses_append names [] ys = refl
 with_uses_append names (x ∷ xs) ys = with_uses_append (with_use names x) xs ys
-
--- names only get more
-pub grows : (us names : List Name) → length names ≤ length (with_uses names us)
-grows [] names = omega arith
-grows (u ∷ us) names = by (number_of names u.text) (grows us (added_unless_found names u (number_of names u.text))) where
-  by : (found : Option ℕ) → length (added_unless_found names u found) ≤ length (with_uses (added_unless_found names u found) us) →
-      length names ≤ length (with_uses (added_unless_found names u found) us)
-  by (Some k) h = h
-  by None h = omega (arith, h, length-append names (u ∷ []))
 
 -- a name that stands nowhere before has no number
 absent : (kept : List Name) (x : Name) (xs : List Name) → AreDistinct (kept ++ x ∷ xs) → number_of kept x.text ≡ None

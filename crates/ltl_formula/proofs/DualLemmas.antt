@@ -8,11 +8,11 @@ use Rattle.ltl_formula.specs.LtlTree.{no_formulas, more_formulas}
 use Rattle.ltl_formula.specs.LetterLoop.{LetterLoop, shape_of, bit_holds, holds, holds_all, holds_any}
 use Rattle.ltl_formula.specs.Dual.{dual, duals}
 
-not_and : (a b c d : Bool) → c ≡ not a → d ≡ not b → (c || d) ≡ not (a && b)
+pub not_and : (a b c d : Bool) → c ≡ not a → d ≡ not b → (c || d) ≡ not (a && b)
 not_and true b c d p q = (λ i. p i || q i)
 not_and false b c d p q = (λ i. p i || d)
 
-not_or : (a b c d : Bool) → c ≡ not a → d ≡ not b → (c && d) ≡ not (a || b)
+pub not_or : (a b c d : Bool) → c ≡ not a → d ≡ not b → (c && d) ≡ not (a || b)
 not_or true b c d p q = (λ i. p i && d)
 not_or false b c d p q = (λ i. p i && q i)
 

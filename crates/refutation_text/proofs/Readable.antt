@@ -12,7 +12,7 @@ use Rattle.refutation_check.specs.Checking.{Numbered, numbered_from, at_line, at
 use Rattle.refutation_check.specs.Checking.{end_refusal, log_refusal}
 use Rattle.refutation_check.proofs.Refuting.{first_none}
 use Rattle.refutation_text.specs.Written.{IsReadable}
-use Rattle.sat_core.specs.LogNumbers.{AreNumbered}
+use Rattle.refutation_check.specs.LogNumbers.{AreNumbered}
 
 none_above : (variables : ℕ) (clause : List Lit) → list_any (λ l. leb variables l.index) clause ≡ false → IsOver variables clause
 none_above variables [] h = All-nil (λ (l : Lit). l.index < variables)

@@ -27,7 +27,8 @@ use Rattle.tsl_meaning.specs.Interpretation.{InputRows}
 use Rattle.tsl_meaning.specs.Run.{Configuration, place_after, signal_value, action_in, configuration_after, configuration_at}
 use Rattle.table_runner.specs.Running.{CanRun, rows_seen}
 use Rattle.program_tree.proofs.Walking.{cond_below}
-use Rattle.table_runner.proofs.Stepping.{beside_joined, place_stays, joined_rows, rows_length}
+use Rattle.tsl_terms.proofs.Beside.{beside_joined}
+use Rattle.table_runner.proofs.Stepping.{place_stays, joined_rows, rows_length}
 
 module _ {V : Type 0} (meanings : Meanings V) (total : IsTotal meanings) (program : Program) (rows : InputRows V)
     (fits : (i : ℕ) (row : List V) → slice_get (rows.stem ++ rows.cycle) i ≡ Some row → length row ≡ length program.inputs)

@@ -4,7 +4,7 @@ use Rattle.std.specs.List.{AllByRecursion}
 use Rattle.std.proofs.lemmas.List.Elements.{All-from_recursion, recursion_from_All}
 use Rattle.clause_learning.specs.Hints.{AreHints}
 use Rattle.refutation_check.specs.declared.steps.Step.{Step}
-use Rattle.sat_core.specs.LogNumbers.{IsNumbered, AreNumbered}
+use Rattle.refutation_check.specs.LogNumbers.{IsNumbered, AreNumbered}
 
 -- a step whose hints are at most the number before its own
 pub is_numbered : (step : Step) (last : ℕ) → step.number ≡ last + 1 → AreHints last step.hints → IsNumbered (last + 1) step

@@ -36,7 +36,7 @@ use Rattle.refutation_check.specs.Checking.{Refusal, step_refusal, first_of, ste
 use Rattle.refutation_check.specs.Checking.HintEffect.{makes, shows_nothing}
 use Rattle.refutation_check.specs.Checking.Refusal.{at_line, at_hint, unfinished}
 use Rattle.clause_learning.specs.Levels.{IsSetAt, AreQuietBelow}
-use Rattle.sat_core.specs.LogNumbers.{AreNumbered}
+use Rattle.refutation_check.specs.LogNumbers.{AreNumbered}
 use Rattle.clause_learning.specs.LearntClauses.{IsAsserting, IsLearntClause, learnt_step, clauses_of, HasLearnt, level_after, IsRefutingLog}
 use Rattle.clause_learning.specs.Decisions.{AreSet, AreVariableTruths}
 use Rattle.sat_core.specs.Answers.{AreSatisfying, AreRefuting, IsWholeTrace}

@@ -7,7 +7,7 @@ use Rattle.refutation_check.specs.declared.steps.Step.{Step}
 use Rattle.refutation_check.specs.Checking.{log_refusal, HaveFewHints}
 use Rattle.sat_core.specs.declared.answers.Answer.{Answer}
 use Rattle.sat_core.specs.declared.answers.Answer.TheVariants.{Sat, Unsat, Spent}
-use Rattle.sat_core.specs.LogNumbers.{AreNumbered}
+use Rattle.refutation_check.specs.LogNumbers.{AreNumbered}
 
 -- one truth for each variable, and with these each clause is met
 pub record AreSatisfying (variables : ℕ) (clauses : List (List Lit)) (truths : List Bool) : Type 0 where

@@ -1,3 +1,2 @@
-pub mod LogNumbers
 pub mod Answers
 pub mod internal

@@ -16,6 +16,7 @@ use Rattle.sequence.proofs.Gathered.{length-all_there}
 use Rattle.tsl_terms.specs.declared.term.Term.{Term}
 use Rattle.tsl_terms.specs.TermTree.{TermTree, ProbeTree, term_tree}
 use Rattle.tsl_terms.specs.Value.{Meanings, value, truth, beside}
+use Rattle.tsl_terms.proofs.Beside.{beside_joined}
 use Rattle.program_tree.specs.NodeTree.{NodeTree, branch, assign}
 use Rattle.program_tree.specs.ProgramTree.{ProgramTree}
 use Rattle.program_tree.specs.ProgramView.{program_tree}
@@ -28,19 +29,6 @@ use Rattle.table_runner.specs.declared.standing.Standing.{Standing}
 use Rattle.tsl_meaning.specs.declared.run.InputLoop.{InputLoop}
 use Rattle.table_runner.specs.Running.{CanRun, rows_seen}
 use Rattle.table_runner.specs.Standings.{shown, StandsAt}
-
--- what stands beside a signal in two lists that are joined
-pub beside_joined : {S : Type 0} (s : ℕ) (rs qs : List ℕ) (us ws : List S) → length us ≡ length rs →
-    beside s (rs ++ qs) (us ++ ws) ≡ option_or (beside s rs us) (beside s qs ws)
-beside_joined s [] qs [] ws long = refl
-beside_joined s [] qs (u ∷ us) ws long = absurd (omega (arith, long))
-beside_joined s (r ∷ rs) qs [] ws long = absurd (omega (arith, long))
-beside_joined s (r ∷ rs) qs (u ∷ us) ws long = by (beside_joined s rs qs us ws (omega (arith, long))) (r == s)
-  where
-    by : beside s (rs ++ qs) (us ++ ws) ≡ option_or (beside s rs us) (beside s qs ws) → (b : Bool) →
-        cond b (Some u) (beside s (rs ++ qs) (us ++ ws)) ≡ option_or (cond b (Some u) (beside s rs us)) (beside s qs ws)
-    by rest true = refl
-    by rest false = rest
 
 -- a walk ends at a node of the program
 walked_to : (nodes : List NodeTree) (truths : ProbeTree → Option Bool) (n i : ℕ) (action : Action) →

@@ -3,19 +3,7 @@ use Rattle.std.proofs.Common.{◌≡◌, ◌∙◌, ℕ, ◌==◌, Bool, true, f
 use Rattle.std.specs.Option.{option_or}
 use Rattle.std.proofs.lemmas.List.{length-append, length-map}
 use Rattle.tsl_terms.specs.Value.{beside}
-
-beside_joined : {V : Type 0} (s : ℕ) (inputs cells : List ℕ) (row held : List V) → length row ≡ length inputs →
-    beside s (inputs ++ cells) (row ++ held) ≡ option_or (beside s inputs row) (beside s cells held)
-beside_joined s [] cells [] held count = refl
-beside_joined s [] cells (v ∷ row) held count = absurd (omega (arith, count))
-beside_joined s (r ∷ inputs) cells [] held count = absurd (omega (arith, count))
-beside_joined s (r ∷ inputs) cells (v ∷ row) held count = by (r == s) (beside_joined s inputs cells row held (omega (arith, count)))
-  where
-    by : (b : Bool) → beside s (inputs ++ cells) (row ++ held) ≡ option_or (beside s inputs row) (beside s cells held) →
-        cond b (Some v) (beside s (inputs ++ cells) (row ++ held))
-        ≡ option_or (cond b (Some v) (beside s inputs row)) (beside s cells held)
-    by true rest = refl
-    by false rest = rest
+use Rattle.tsl_terms.proofs.Beside.{beside_joined}
 
 module _ {V S : Type 0} (seen : V → S) (signals inputs cells : List ℕ) (values row held : List V) (are_signals : signals ≡ inputs ++ cells)
     (are_values : map seen values ≡ map seen row ++ map seen held) (rows : length row ≡ length inputs) where

@@ -1,39 +1,21 @@
 -- The names of a specification know each use: its number names what it is used as.
-use Rattle.std.proofs.Common.{◌≡◌, ℕ, ◌==◌, Bool, true, false, List, [], ◌∷◌, ◌++◌, refl, ap, sym, ◌∙◌, inl, inr, ⊎_elim, arith}
+use Rattle.std.proofs.Common.{◌≡◌, ℕ, Bool, true, false, List, [], ◌∷◌, ◌++◌, refl, ap, sym, ◌∙◌, inl, inr, ⊎_elim, arith}
 use Rattle.std.proofs.lemmas.Grind.{common_steps}
-use Rattle.std.specs.Prelude.{Some, zero, suc, cond, slice_get, flat_map, option_and_then, IsTrue, ◌⊎◌}
+use Rattle.std.specs.Prelude.{Some, zero, suc, cond, slice_get, flat_map, IsTrue, ◌⊎◌}
 use Rattle.std.specs.List.{AllByRecursion}
 use Rattle.std.specs.Str.{bytes_eq}
 use Rattle.sequence.proofs.Bytes.{same_bytes}
 use Rattle.sequence.proofs.Each.{each_at}
-use Rattle.sequence.proofs.Options.{there_before}
-use Rattle.std.specs.Option.{is_some}
 use Rattle.tsl_text.specs.Names.{is_usable}
-use Rattle.tsl_terms.specs.Name.{Name, number_of, same_kind, question}
+use Rattle.tsl_terms.specs.Name.{Name, question}
 use Rattle.tsl_terms.specs.Clashes.{alike_in_kind, same_arity, HasNoClash}
 use Rattle.tsl_terms.specs.internal.FirstUse.{name_with}
+use Rattle.tsl_terms.proofs.KnownNames.{Known, known_of}
 use Rattle.tsl_terms.proofs.FirstUses.{first_of, named_first, first_some, FirstAt, first_at, clash_of}
 use Rattle.spec_syntax.specs.Syntax.{SectionSyntax}
 use Rattle.tsl_reader.specs.Naming.{Use, all_uses, written_uses, question_use, named_by, names_of}
 use Rattle.tsl_reader.proofs.UseLemmas.{first_other}
 use Rattle.tsl_reader.proofs.Usable.{IsUsable}
-
--- the number of a use names it in its kind and with its number of arguments
-pub record Known (names : List Name) (u : Name) : Type 0 where
-  pub number : ℕ
-  pub entry : Name
-  pub numbered : number_of names u.text ≡ Some number
-  pub there : slice_get names number ≡ Some entry
-  pub text : entry.text ≡ u.text
-  pub kind : same_kind entry.kind u.kind ≡ true
-  pub arity : (entry.arity == u.arity) ≡ true
-
-known_of : (names : List Name) (u f : Name) → name_with names u.text ≡ Some f → f.text ≡ u.text → alike_in_kind f u ≡ true →
-    same_arity f u ≡ true → Known names u
-known_of names u f found text kind arity =
-    let k = there_before (slice_get names) (number_of names u.text) (ap is_some found) in
-    let there = sym (ap (option_and_then (slice_get names)) k.1) ∙ found in
-    record { number = k.0; entry = f; numbered = k.1; there = there; text = text; kind = kind; arity = arity }
 
 -- a name that gets a number is usable, or `?` as a test
 abbrev pub MayBeNamed : Name → Type 0

@@ -6,33 +6,23 @@ use Rattle.std.proofs.Common.{append_assoc, arith}
 use Rattle.std.proofs.lemmas.Grind.{common_steps}
 use Rattle.std.proofs.lemmas.List.{append-nil, drop_more, drop_all}
 use Rattle.std.specs.Option.{is_some}
-use Rattle.sequence.proofs.Lists.{with_front, with_front_push}
+use Rattle.sequence.proofs.Lists.{with_front}
 use Rattle.tsl_terms.specs.declared.term.Term.{Term}
 use Rattle.tsl_terms.specs.declared.formula.Formula.{Formula}
 use Rattle.tsl_terms.specs.FormulaTree.{FormulaTree, FormulaTrees, no_formulas, more_formulas, formulas_in as members_in, formulas_of}
 use Rattle.tsl_terms.specs.FormulaTree.{formula_tree}
-use Rattle.tsl_terms.proofs.TermLemmas.{with_front_none as terms_front_none}
+use Rattle.tsl_terms.proofs.NumberedTerms.{numbered_front, front_more}
 use Rattle.tsl_terms.proofs.FormulaLemmas.{with_front_none as formulas_front_none}
 use Rattle.spec_syntax.specs.declared.syntax.Part.{Part}
 use Rattle.spec_syntax.specs.declared.trees.ReadSection.{ReadSection}
 use Rattle.tsl_terms.specs.Name.{Name}
-use Rattle.tsl_terms.specs.TermTree.{TermTree, TermTrees, no_terms, more_terms, terms_of, term_tree}
+use Rattle.tsl_terms.specs.TermTree.{more_terms, term_tree}
 use Rattle.spec_syntax.specs.Syntax.{TermSyntax, TermsSyntax, more_terms as another_term, FormulaSyntax, FormulasSyntax}
 use Rattle.spec_syntax.specs.Syntax.{more_formulas as another_formula, SectionSyntax}
 use Rattle.spec_syntax.specs.SyntaxView.{section_syntax}
 use Rattle.tsl_reader.specs.Numbering.{formulas_after, formulas_if}
 use Rattle.tsl_reader.specs.Naming.{numbered_term, numbered_terms, numbered_formula, numbered_members, numbered_list}
 use Rattle.tsl_reader.specs.Naming.{formulas_of_part}
-
--- one member more in front of those that are left
-front_more : {T X L : Type 0} (more : X → L → L) (tree : T → X) (front : List T) (t : T) (found : Option L) →
-    option_map (with_front more (map tree (front ++ t ∷ []))) found
-    ≡ option_map (with_front more (map tree front)) (option_map (more (tree t)) found)
-front_more more tree front t (Some ts) = ap Some (with_front_push more tree front t ts)
-front_more more tree front t None = refl
-
-abbrev pub numbered_front : List TermTree → Option TermTrees → Option TermTrees
-numbered_front front rest = option_map (with_front more_terms front) rest
 
 -- one term more
 pub numbered_more : (names : List Name) (front all : List Term) (t : Term) (syntax : TermSyntax) (rest : TermsSyntax) →
@@ -41,11 +31,6 @@ pub numbered_more : (names : List Name) (front all : List Term) (t : Term) (synt
     numbered_front (map term_tree all) (numbered_terms names rest)
     ≡ numbered_front (map term_tree front) (numbered_terms names (another_term syntax rest))
 numbered_more names front all t syntax rest is h = rw (is, h) (front_more more_terms term_tree front t (numbered_terms names rest))
-
--- the terms are all
-pub numbered_all : (front : List TermTree) (all : Option TermTrees) (list : TermTrees) → numbered_front front (Some no_terms) ≡ all →
-    list ≡ terms_of front → all ≡ Some list
-numbered_all front all list h is = sym h ∙ ap Some (terms_front_none front ∙ sym is)
 
 -- the same for formulas
 

@@ -307,7 +307,8 @@ next_use : (us : List NameUse) (i : ℕ) (d : NameUse) → i < length us →
     map name_use (drop i us) ≡ name_use (get_or us i d) ∷ map name_use (drop (i + 1) us)
 next_use us i d within = ap (map name_use) (drop_more us i d within)
 
-grows : (us names : List Name) → length names ≤ length (with_uses names us)
+-- names only get more
+pub grows : (us names : List Name) → length names ≤ length (with_uses names us)
 grows [] names = omega arith
 grows (u ∷ us) names = by (number_of names u.text) (grows us (added_unless_found names u (number_of names u.text))) where
   by : (found : Option ℕ) → length (added_unless_found names u found) ≤ length (with_uses (added_unless_found names u found) us) →

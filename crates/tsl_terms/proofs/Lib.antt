@@ -1,12 +1,15 @@
 pub mod AtomLoops
+pub mod Beside
 pub mod CountLemmas
 pub mod EqualityLemmas
 pub mod Examples
 pub mod FirstUses
 pub mod FormulaLemmas
+pub mod KnownNames
 pub mod MarkLemmas
 pub mod MoreListed
 pub mod NameLemmas
+pub mod NumberedTerms
 pub mod PlainWindows
 pub mod SameLemmas
 pub mod SameFrees

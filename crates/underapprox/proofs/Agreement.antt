@@ -45,7 +45,8 @@ use Rattle.letter_space.specs.SpaceTree.{SpaceTree}
 use Rattle.letter_space.specs.Bits.{bit_of_atom, HasBits}
 use Rattle.underapprox.specs.LetterForm.{atom_form, not_atom_form, letter_form, not_letter_form, letter_forms, not_letter_forms}
 use Rattle.underapprox.specs.LetterLasso.{letter_lasso, AreLettersOf}
-use Rattle.underapprox.proofs.Booleans.{or_none, not_implies, not_either, agrees, disagrees, not_both, not_some}
+use Rattle.ltl_formula.proofs.DualLemmas.{not_and, not_or}
+use Rattle.underapprox.proofs.Booleans.{or_none, not_implies, not_either, agrees, disagrees}
 
 -- along positions that stay among those that are spoken of, words are the same where their parts are
 module _ (shape : LoopShape) (P : ℕ → Type 0) (stays : (i : ℕ) → P i → P (after shape i)) where
@@ -187,7 +188,7 @@ module _ (space : SpaceTree) (loop : LetterLoop) (says : ℕ → Atom → Bool) 
     some_form_fails (more_formulas f fs) each i p =
         let first = form_fails f (each_left Q (atoms f) (atoms_of_members fs) each) i p in
         let rest = some_form_fails fs (each_right Q (atoms f) (atoms_of_members fs) each) i p in
-        not_both (meets run f i) (list_all (λ holds. holds) (meet_each run fs i)) _ _ first rest
+        not_and (meets run f i) (list_all (λ holds. holds) (meet_each run fs i)) _ _ first rest
 
     forms_fail : (fs : FormulaTrees) → AllByRecursion Q (atoms_of_members fs) → (i : ℕ) → P i →
         holds_all loop (not_letter_forms space fs) i ≡ not (list_any (λ holds. holds) (meet_each run fs i))
@@ -195,7 +196,7 @@ module _ (space : SpaceTree) (loop : LetterLoop) (says : ℕ → Atom → Bool) 
     forms_fail (more_formulas f fs) each i p =
         let first = form_fails f (each_left Q (atoms f) (atoms_of_members fs) each) i p in
         let rest = forms_fail fs (each_right Q (atoms f) (atoms_of_members fs) each) i p in
-        not_some (meets run f i) (list_any (λ holds. holds) (meet_each run fs i)) _ _ first rest
+        not_or (meets run f i) (list_any (λ holds. holds) (meet_each run fs i)) _ _ first rest
 
 pub each_trivially : (xs : List Atom) → AllByRecursion (λ _. ⊤) xs
 each_trivially [] = tt

@@ -33,11 +33,3 @@ disagrees true true = refl
 disagrees true false = refl
 disagrees false true = refl
 disagrees false false = refl
-
-pub not_both : (a b c d : Bool) → c ≡ not a → d ≡ not b → (c || d) ≡ not (a && b)
-not_both true b c d first second = λ i. first i || second i
-not_both false b c d first second = λ i. first i || d
-
-pub not_some : (a b c d : Bool) → c ≡ not a → d ≡ not b → (c && d) ≡ not (a || b)
-not_some true b c d first second = λ i. first i && d
-not_some false b c d first second = λ i. first i && second i

@@ -16,7 +16,7 @@ use Rattle.clause_learning.specs.Decisions.{AreDecisions}
 use Rattle.clause_learning.specs.LearntClauses.{clauses_of}
 use Rattle.clause_learning.specs.Units.{AreUnits}
 use Rattle.sat_core.specs.declared.search.Search.{Search}
-use Rattle.sat_core.specs.LogNumbers.{AreNumbered}
+use Rattle.refutation_check.specs.LogNumbers.{AreNumbered}
 
 -- the clauses of a formula and of the steps behind them
 abbrev pub known : List (List Lit) → List Step → List (List Lit)

@@ -5,7 +5,8 @@ use Rattle.tsl_terms.specs.TermTree.{term_tree, term_trees}
 use Rattle.program_listing.specs.declared.listing.SurfaceTermList.{the_lemmas}
 use Rattle.program_listing.specs.Listing.{surface_tree, surface_trees}
 use Rattle.flow_program.specs.internal.Numbering.{numbered_terms}
-use Rattle.flow_program.proofs.NumberLemmas.{numbered_more, numbered_all}
+use Rattle.tsl_terms.proofs.NumberedTerms.{numbered_all}
+use Rattle.flow_program.proofs.NumberLemmas.{numbered_more}
 use Rattle.flow_program.proofs.numbering.+number_terms.Goals as goal
 
 pub numbered_term-numbered-number-requires-clause-stands : goal.numbered_term-numbered-number-requires-clause-stands

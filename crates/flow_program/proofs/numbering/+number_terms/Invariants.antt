@@ -6,7 +6,7 @@ use Rattle.program_listing.specs.declared.listing.SurfaceTermList.{size-SurfaceT
 use Rattle.program_listing.specs.Listing.{surface_trees}
 use Rattle.program_listing.specs.internal.NamesStand.{surfaces_stand}
 use Rattle.flow_program.specs.internal.Numbering.{numbered_terms}
-use Rattle.flow_program.proofs.NumberLemmas.{numbered_front}
+use Rattle.tsl_terms.proofs.NumberedTerms.{numbered_front}
 use Rattle.flow_program.proofs.numbering.+number_terms.Given as goal
 
 abbrev pub invariant-numbered_terms-loop-rest : goal.invariant-numbered_terms-loop-rest

@@ -4,7 +4,8 @@ use Rattle.tsl_terms.specs.TermTree.{term_tree, term_trees}
 use Rattle.spec_syntax.specs.declared.trees.ReadTerms.{the_lemmas}
 use Rattle.tsl_reader.specs.Naming.{numbered_terms}
 use Rattle.spec_syntax.specs.SyntaxView.{term_syntax, terms_syntax}
-use Rattle.tsl_reader.proofs.NumberLemmas.{numbered_more, numbered_all}
+use Rattle.tsl_terms.proofs.NumberedTerms.{numbered_all}
+use Rattle.tsl_reader.proofs.NumberLemmas.{numbered_more}
 use Rattle.tsl_reader.proofs.numbering.+number_terms.Goals as goal
 
 pub numbered_terms-loop-rest-preserved : goal.numbered_terms-loop-rest-preserved

@@ -3,7 +3,7 @@ use Rattle.tsl_terms.specs.TermTree.{term_tree}
 use Rattle.spec_syntax.specs.declared.trees.ReadTerms.{size-ReadTerms}
 use Rattle.tsl_reader.specs.Naming.{numbered_terms}
 use Rattle.spec_syntax.specs.SyntaxView.{terms_syntax}
-use Rattle.tsl_reader.proofs.NumberLemmas.{numbered_front}
+use Rattle.tsl_terms.proofs.NumberedTerms.{numbered_front}
 use Rattle.tsl_reader.proofs.numbering.+number_terms.Given as goal
 
 -- the terms so far, and then those that are left
