@@ -11,7 +11,7 @@ ghost use Rattle.letter_space.specs.SpaceView.{space_tree};
 ghost use Rattle.letter_space.specs.SpaceTree.{bit_count, choice_count};
 ghost use Rattle.cobuchi_automata.specs.Edges.{edge_tree, edge_trees};
 ghost use Rattle.annotation_check.specs.EdgeLists.{edge_lists};
-ghost use Rattle.tsl_report.specs.EnvironmentText.{controlled_is_held, space_is_held};
+ghost use Rattle.environment_text.specs.EnvironmentText.{controlled_is_held, space_is_held};
 ghost use Rattle.automaton_text.specs.BitNames.{bit_names, choice_names};
 ghost use Rattle.automaton_text.specs.HoaText.{hoa_text, header_lines, bits_text, quoted_text, edge_text, state_text, mark_text};
 ghost use Rattle.automaton_text.specs.internal.Written.{listed_lines};

@@ -35,7 +35,7 @@ use Rattle.tsl_meaning.proofs.Runs.{step_there, atoms_decided, configuration_the
 use Rattle.tsl_meaning.proofs.RunsOf.{run_means, decided_judged}
 use Rattle.table_interp.specs.Inputs.{SpellsInputs, by_inputs}
 use Rattle.table_runner.specs.Running.{rows_seen, CanRun}
-use Rattle.tsl_report.specs.TraceText.{position_is_held, RunIsHeld}
+use Rattle.trace_text.specs.TraceText.{position_is_held, RunIsHeld}
 use Rattle.tsl_report.specs.declared.fault.LimitName.TheVariants.{Run as RunLimit}
 use Rattle.tsl_report.specs.declared.fault.Fault.TheVariants.{Large}
 use Rattle.tool_ends.specs.declared.reply.Reply.{Reply}

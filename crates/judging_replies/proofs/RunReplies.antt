@@ -24,7 +24,7 @@ use Rattle.table_interp.specs.declared.InputError.TheVariants.{Rows, Count as Ro
 use Rattle.tsl_report.specs.declared.fault.Fault.{Fault}
 use Rattle.tsl_report.specs.declared.fault.Fault.TheVariants.{Parts, Large}
 use Rattle.tsl_report.specs.declared.fault.LimitName.TheVariants.{Run as RunLimit}
-use Rattle.tsl_report.specs.TraceText.{positions_text, loop_text, verdicts_text, trace_text}
+use Rattle.trace_text.specs.TraceText.{positions_text, loop_text, verdicts_text, trace_text}
 use Rattle.tool_ends.specs.declared.status.Status.TheVariants.{Done, No}
 use Rattle.tool_ends.specs.declared.reply.Reply.{Reply}
 use Rattle.tool_replies.specs.Replies.{fault_status}

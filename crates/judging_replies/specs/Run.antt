@@ -28,7 +28,7 @@ use Rattle.tsl_report.specs.declared.fault.Head.{Head}
 use Rattle.tsl_report.specs.declared.fault.LimitName.TheVariants.{Run as RunLimit}
 use Rattle.tsl_report.specs.declared.fault.Fault.{Fault}
 use Rattle.tsl_report.specs.declared.fault.Fault.TheVariants.{Parts, Large}
-use Rattle.tsl_report.specs.TraceText.{trace_text}
+use Rattle.trace_text.specs.TraceText.{trace_text}
 use Rattle.judging_replies.specs.declared.parting.Style.{Style}
 use Rattle.judging_replies.specs.declared.parting.Style.TheVariants.{Tables, Words}
 use Rattle.judging_replies.specs.declared.running.TheConstants.{MOST_CONFIGURATIONS}

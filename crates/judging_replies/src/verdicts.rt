@@ -9,7 +9,7 @@ ghost use Rattle.program_tree.specs.ProgramView.{program_tree};
 ghost use Rattle.tsl_meaning.specs.Lasso.{meets};
 ghost use Rattle.tsl_meaning.specs.RunTree.{run_tree};
 ghost use Rattle.tsl_meaning.specs.RunLasso.{run_lasso, IsJudged};
-ghost use Rattle.tsl_report.specs.TraceText.{RunIsHeld};
+ghost use Rattle.trace_text.specs.TraceText.{RunIsHeld};
 ghost use Rattle.program_check.specs.Verdicts.{HasSignals};
 ghost use Rattle.judging_replies.specs.Run.{HasGivenSignals, formulas_to_judge, given_formulas, signals_reply, trace_reply};
 ghost use Rattle.judging_replies.specs.Run.{verdict_status};
@@ -20,8 +20,8 @@ use program_tree::Program;
 use sequence::NoMemory;
 use std::alloc::Global;
 use tool_ends::{Reply, Status};
+use trace_text::trace_text;
 use tsl_meaning::LoopRun;
-use tsl_report::trace_text;
 use tsl_terms::{Names, Spec, Window, signals, whole, window_formula};
 
 /// Whether the program has exactly the inputs, cells and outputs of the specification, if there is

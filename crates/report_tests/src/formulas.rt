@@ -4,7 +4,7 @@ ghost use Rattle.std.specs.Prelude.{◌≡◌, List, length, IsTrue, IfOk};
 ghost use Rattle.tsl_terms.specs.Name.{Name};
 ghost use Rattle.tsl_terms.specs.declared.operator.ManyOperator.TheVariants.{Conjunction};
 ghost use Rattle.tsl_terms.specs.FormulaTree.{many, formula_tree, formula_trees};
-ghost use Rattle.tsl_report.specs.FormulaText.{can_be_written};
+ghost use Rattle.formula_text.specs.FormulaText.{can_be_written};
 
 use sequence::NoMemory;
 use std::alloc::Global;

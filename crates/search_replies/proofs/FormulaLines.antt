@@ -24,7 +24,7 @@ use Rattle.tsl_terms.specs.FormulaTree.{Atom, test, update, FormulaTree, Formula
 use Rattle.tsl_terms.specs.WellFormed.{name_fits, is_question}
 use Rattle.term_text.specs.TermText.{name_text, argument_text, applied_text, term_text, arguments_text, application_text, question_text, probe_text}
 use Rattle.program_listing.proofs.WordsRead.{usable_run}
-use Rattle.tsl_report.specs.FormulaText.{constant_text, atom_text, unary_text, binary_text, many_text, formula_text, members_text, others_text}
+use Rattle.formula_text.specs.FormulaText.{constant_text, atom_text, unary_text, binary_text, many_text, formula_text, members_text, others_text}
 
 -- ---- names
 

@@ -11,7 +11,7 @@ use Rattle.refinement_loop.specs.Questions.{HasSolution}
 use Rattle.refinement_loop.specs.Outcomes.{IsLargeFor}
 use Rattle.refinement_loop.proofs.OneAnswer.{not_answered, not_both}
 use Rattle.generator.specs.Generated.{generated_text}
-use Rattle.tsl_report.specs.SearchTexts.{spent_text}
+use Rattle.search_text.specs.SearchTexts.{spent_text}
 use Rattle.tool_ends.specs.declared.status.Status.TheVariants.{Done, No, Large, Spent}
 use Rattle.tool_ends.specs.declared.reply.Reply.{Reply}
 use Rattle.search_replies.specs.Gen.{GenOutcome, found, none, spent, too_large, bits_summary}

@@ -23,7 +23,7 @@ use Rattle.refinement_loop.specs.Questions.{HasNoSolution, IsWrittenFor}
 use Rattle.refinement_loop.specs.Outcomes.{search_with, IsLargeFor, IsLargeIn, at_controller, at_environment, IsSpentIn, IsSpentOn}
 use Rattle.generator.specs.Generated.{generated_text}
 use Rattle.tsl_report.specs.declared.fault.Fault.{Fault}
-use Rattle.tsl_report.specs.SearchTexts.{spent_text}
+use Rattle.search_text.specs.SearchTexts.{spent_text}
 use Rattle.tool_ends.specs.declared.status.Status.TheVariants.{Spent}
 use Rattle.tool_ends.specs.declared.reply.Reply.{Reply}
 use Rattle.search_replies.specs.Gen.{GenOutcome, SummaryOutcome, found, none, spent, too_large, summary_reply}

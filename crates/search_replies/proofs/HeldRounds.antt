@@ -31,9 +31,9 @@ use Rattle.refinement_loop.specs.declared.outcome.Reason.TheVariants.{Rounds, No
 use Rattle.refinement_loop.specs.Outcomes.{HasReason}
 use Rattle.refinement_loop.specs.Questions.{IsCounterstrategy}
 use Rattle.refinement_loop.specs.Chains.{IsChainFrom, IsChain}
-use Rattle.tsl_report.specs.EnvironmentText.{controlled_is_held, space_is_held}
-use Rattle.tsl_report.specs.RoundTexts.{RoundIsHeld, RoundsAreHeld}
-use Rattle.tsl_report.specs.SearchTexts.{ReasonFits}
+use Rattle.environment_text.specs.EnvironmentText.{controlled_is_held, space_is_held}
+use Rattle.environment_text.specs.RoundTexts.{RoundIsHeld, RoundsAreHeld}
+use Rattle.search_text.specs.SearchTexts.{ReasonFits}
 use Rattle.tool_replies.proofs.HeldSpaces.{space_held}
 use Rattle.search_replies.specs.internal.SearchReasons.{reason_told}
 

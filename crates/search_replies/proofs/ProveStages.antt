@@ -27,8 +27,8 @@ use Rattle.refinement_loop.specs.Questions.{IsAsked, HasFewClauses}
 use Rattle.refinement_loop.specs.Outcomes.{IsSpentOn, IsLargeFor}
 use Rattle.refinement_loop.proofs.OneAnswer.{none_of}
 use Rattle.tsl_report.specs.declared.fault.Fault.{Fault}
-use Rattle.tsl_report.specs.FormulaText.{formula_text}
-use Rattle.tsl_report.specs.SearchTexts.{spent_text}
+use Rattle.formula_text.specs.FormulaText.{formula_text}
+use Rattle.search_text.specs.SearchTexts.{spent_text}
 use Rattle.command_words.specs.declared.task.ProveSizes.{ProveSizes}
 use Rattle.tool_ends.specs.declared.status.Status.TheVariants.{Done, Spent}
 use Rattle.tool_ends.specs.declared.reply.Reply.{Reply}

@@ -21,7 +21,7 @@ use Rattle.refinement_loop.specs.Outcomes.{IsSpentIn, IsLargeFor, IsLargeIn, at_
 use Rattle.refinement_loop.proofs.OneAnswer.{not_answered, not_both}
 use Rattle.refinement_loop.proofs.OneOutcome.{first_has_none, told_first}
 use Rattle.tsl_report.specs.FaultText.{fault_text}
-use Rattle.tsl_report.specs.SearchTexts.{none_text, spent_text}
+use Rattle.search_text.specs.SearchTexts.{none_text, spent_text}
 use Rattle.tool_ends.specs.declared.status.Status.TheVariants.{Done, No, Large, Spent}
 use Rattle.tool_ends.specs.declared.reply.Reply.{Reply}
 use Rattle.tool_replies.specs.Refusals.{fault_at_limit}

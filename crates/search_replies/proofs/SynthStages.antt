@@ -34,8 +34,8 @@ use Rattle.refinement_loop.specs.declared.outcome.Outcome.TheVariants as outcome
 use Rattle.refinement_loop.specs.Outcomes.{HasReason, IsOutcome, IsLastBound, IsLargeFor, at_controller, IsLargeAfter}
 use Rattle.tsl_report.specs.declared.fault.Fault.{Fault}
 use Rattle.tsl_report.specs.FaultText.{fault_text}
-use Rattle.tsl_report.specs.RoundTexts.{rounds_text}
-use Rattle.tsl_report.specs.SearchTexts.{none_text, spent_text}
+use Rattle.environment_text.specs.RoundTexts.{rounds_text}
+use Rattle.search_text.specs.SearchTexts.{none_text, spent_text}
 use Rattle.tool_ends.specs.declared.status.Status.TheVariants.{Done, No, Large, Spent}
 use Rattle.tool_ends.specs.declared.reply.Reply.{Reply}
 use Rattle.search_replies.specs.internal.SearchReasons.{reason_told}

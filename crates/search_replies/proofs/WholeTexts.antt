@@ -5,8 +5,8 @@ use Rattle.tsl_terms.specs.SpecTree.{whole_formula}
 use Rattle.tsl_terms.specs.SpecView.{spec_tree}
 use Rattle.tsl_terms.specs.WellFormed.{formula_fits}
 use Rattle.tsl_terms.proofs.WholeAtoms.{fits_all}
-use Rattle.tsl_report.specs.FormulaText.{can_be_written}
-use Rattle.tsl_report.proofs.Written.{whole_written}
+use Rattle.formula_text.specs.FormulaText.{can_be_written}
+use Rattle.formula_text.proofs.Written.{whole_written}
 
 pub spec_written : (spec : Spec) → can_be_written spec.names (whole_formula (spec_tree spec)) ≡ true
 spec_written spec =

@@ -15,7 +15,7 @@ use Rattle.refinement_loop.specs.declared.outcome.Bound.TheVariants.{Fixed}
 use Rattle.refinement_loop.specs.Questions.{IsAsked, HasFewClauses, HasNoSolution}
 use Rattle.refinement_loop.specs.Outcomes.{IsLargeFor}
 use Rattle.tsl_report.specs.declared.fault.Fault.{Fault}
-use Rattle.tsl_report.specs.FormulaText.{formula_text}
+use Rattle.formula_text.specs.FormulaText.{formula_text}
 use Rattle.tool_ends.specs.declared.status.Status.TheVariants.{Done, No, Spent}
 use Rattle.command_words.specs.declared.task.ProveSizes.{ProveSizes}
 use Rattle.tool_ends.specs.declared.reply.Reply.{Reply}

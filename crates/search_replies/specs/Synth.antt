@@ -23,8 +23,8 @@ use Rattle.refinement_loop.specs.Outcomes.{MayGoOn, IsGenuine, IsSpentOn, IsSpen
 use Rattle.full_bound.specs.FullBound.{AllFail}
 use Rattle.tsl_report.specs.declared.fault.Fault.{Fault}
 use Rattle.tsl_report.specs.FaultText.{fault_text}
-use Rattle.tsl_report.specs.RoundTexts.{rounds_text}
-use Rattle.tsl_report.specs.SearchTexts.{ReasonTree, rounds_made, no_counter, genuine, none_text, spent_text}
+use Rattle.environment_text.specs.RoundTexts.{rounds_text}
+use Rattle.search_text.specs.SearchTexts.{ReasonTree, rounds_made, no_counter, genuine, none_text, spent_text}
 use Rattle.tool_ends.specs.declared.status.Status.TheVariants.{Done, No, Large, Spent}
 use Rattle.tool_ends.specs.declared.reply.Reply.{Reply}
 use Rattle.tool_replies.specs.Refusals.{HasSpecFault, fault_at_limit}

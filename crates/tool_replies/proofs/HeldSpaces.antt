@@ -20,7 +20,7 @@ use Rattle.term_text.proofs.Held.{name_held, term_held, probe_held}
 use Rattle.letter_space.specs.SpecSpace.{controlled_from, spec_space}
 use Rattle.program_check.proofs.ProgramNames.{cell_named}
 use Rattle.program_check.proofs.SpaceTerms.{predicates_pass, choices_pass}
-use Rattle.tsl_report.specs.EnvironmentText.{controlled_is_held, space_is_held}
+use Rattle.environment_text.specs.EnvironmentText.{controlled_is_held, space_is_held}
 
 module _ (spec : SpecTree) (fits : SpecFits spec) where
   abbrev names : List Name

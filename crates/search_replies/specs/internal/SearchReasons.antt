@@ -3,7 +3,7 @@ use Rattle.machines.specs.MachineView.{environment_tree}
 use Rattle.refinement_loop.specs.declared.outcome.Search.{Search}
 use Rattle.refinement_loop.specs.declared.outcome.Reason.{Reason}
 use Rattle.refinement_loop.specs.declared.outcome.Reason.TheVariants.{Rounds, NoCounter, Genuine}
-use Rattle.tsl_report.specs.SearchTexts.{ReasonTree, rounds_made, no_counter, genuine}
+use Rattle.search_text.specs.SearchTexts.{ReasonTree, rounds_made, no_counter, genuine}
 
 abbrev pub reason_told : Search → Reason → ReasonTree
 reason_told search Rounds = rounds_made search.rounds

@@ -8,7 +8,7 @@ use Rattle.tsl_terms.specs.TermTree.{term_tree}
 use Rattle.term_text.specs.TermText.{is_held, term_is_held}
 use Rattle.letter_space.specs.declared.controlled.Controlled.{Controlled}
 use Rattle.letter_space.specs.ControlledView.{controlled_tree}
-use Rattle.tsl_report.specs.EnvironmentText.{controlled_is_held}
+use Rattle.environment_text.specs.EnvironmentText.{controlled_is_held}
 use Rattle.automaton_text.proofs.writer.put_signals.Goals as goal
 
 -- what is asked of a signal of the list

@@ -5,7 +5,7 @@ use Rattle.tsl_terms.specs.SpecView.{spec_tree}
 use Rattle.letter_space.specs.SpaceTree.{SpaceTree, bit_count}
 use Rattle.cobuchi_automata.specs.Edges.{edge_tree, edge_trees}
 use Rattle.automaton_text.specs.BitNames.{bit_names}
-use Rattle.tsl_report.specs.EnvironmentText.{space_is_held}
+use Rattle.environment_text.specs.EnvironmentText.{space_is_held}
 use Rattle.automaton_text.specs.HoaText.{hoa_text}
 use Rattle.tool_replies.proofs.HeldSpaces.{space_held}
 use Rattle.exchange_replies.proofs.negated_automaton.automaton_reply.Goals as goal

@@ -1,0 +1,3 @@
+pub mod EnvironmentExamples
+pub mod Pieces
+pub mod Picks

@@ -1,0 +1,12 @@
+use Rattle.std.proofs.Common.{IsTrue, sym, subst}
+use Rattle.sequence.proofs.Passes.{map_passes_within}
+use Rattle.tsl_terms.specs.declared.term.Probe.{Probe}
+use Rattle.tsl_terms.specs.TermTree.{probe_tree}
+use Rattle.term_text.specs.TermText.{probe_is_held}
+use Rattle.environment_text.proofs.environment.put_tests.Goals as goal
+
+pub put_test-requires : goal.put_test-requires
+put_test-requires c =
+    subst (λ (p : Probe). IsTrue (probe_is_held c.args.names.now (probe_tree p))) (sym c.index-probes-number.is)
+    (map_passes_within probe_tree (probe_is_held c.args.names.now) c.args.probes.now c.loop-number.number _ c.requires
+    c.loop-number-test.true)

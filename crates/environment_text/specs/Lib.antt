@@ -1,0 +1,2 @@
+pub mod EnvironmentText
+pub mod RoundTexts
