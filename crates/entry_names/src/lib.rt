@@ -9,8 +9,7 @@
 //! - `entry_places` answers `Ok` exactly where each needed name has one entry and each entry is for a needed
 //!   name in its kind, and then with the place of each name's entry. An `Err` has the first cause in this
 //!   order: an entry for no needed name, a second entry for a name, a needed name without an entry.
-//! - `entry_for` gives the entry for a name by these places.
-//! - `marks` and `places` tell of numbers whether they stand in a list, and where.
+//! - `entry_for` gives the entry for a name by these places, and `place_of` the place.
 #![tactic(auto)]
 
 mod locating;
@@ -21,4 +20,4 @@ mod numbering;
 pub use locating::{EntryFault, entry_for, entry_places};
 pub use named::Named;
 pub use needing::{is_symbol_number, needed};
-pub use numbering::{RepeatFault, marks, place_of, places};
+pub use numbering::place_of;

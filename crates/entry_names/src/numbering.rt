@@ -8,7 +8,7 @@ use sequence::NoMemory;
 use std::alloc::Global;
 
 /// For each of so many numbers whether it is among these. An `Err` says that memory ran out.
-pub fn marks(alloc: Global, count: u32, numbers: &[u32]) -> Result<Vec<bool>, NoMemory>
+pub(crate) fn marks(alloc: Global, count: u32, numbers: &[u32]) -> Result<Vec<bool>, NoMemory>
     requires { All (λ n. n < count) numbers.now }
     ensures { IfOk result (λ marks. AreMarksOf count numbers.now marks.items) }
 {
@@ -21,7 +21,7 @@ pub fn marks(alloc: Global, count: u32, numbers: &[u32]) -> Result<Vec<bool>, No
 
 /// The place of the first number that stands at an earlier place too, or out of memory.
 #[derive(Drop)]
-pub enum RepeatFault {
+pub(crate) enum RepeatFault {
     /// The number at this place stands at an earlier one too, and none before it does.
     Repeat(usize),
     /// Memory ran out.
@@ -48,7 +48,11 @@ pub fn place_of(places: &[Option<usize>], number: u32) -> Option<usize>
 
 /// For each of so many numbers the place where it stands. An `Err` tells the first place with a number that
 /// stands at an earlier one too, or that memory ran out.
-pub fn places(alloc: Global, count: u32, numbers: &[u32]) -> Result<Vec<Option<usize>>, RepeatFault>
+pub(crate) fn places(
+    alloc: Global,
+    count: u32,
+    numbers: &[u32],
+) -> Result<Vec<Option<usize>>, RepeatFault>
     requires { All (λ n. n < count) numbers.now }
     ensures ok { IfOk result (λ places. ArePlaces count numbers.now places.items) }
     ensures once { IfOk result (λ places. HasNoRepeat numbers.now) }

@@ -1,6 +1,6 @@
 //! The top call.
 
-ghost use Rattle.std.specs.Prelude.{◌≡◌, ℕ, List, map, string_bytes, IsTrue, IfOk, Some};
+ghost use Rattle.std.specs.Prelude.{◌≡◌, ℕ, List, map, string_bytes, IsTrue, IfOk};
 ghost use Rattle.command_words.specs.declared.task.Task.{Task};
 ghost use Rattle.command_words.specs.Commands.{ParsesTo};
 ghost use Rattle.tsl_io.specs.Told.{with_added};
