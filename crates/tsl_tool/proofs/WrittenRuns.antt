@@ -112,9 +112,8 @@ module _ (meant : AreMeant) (search : Search) (bytes text : List ℕ) (spec : Sp
         (windows_hold text spec written.program program names names_distinct written.spelled written.realizes read) tt
     keeps_by (Some other) there read = by is_given
       where
-        of_spec : part ≡ bytes → Keeps (Some other) names program
-        of_spec is =
-            let same : other ≡ spec = one_spec bytes other spec (subst (λ t. Spells t other) is there.1) spells in
+        of_spec : other ≡ spec → Keeps (Some other) names program
+        of_spec same =
             let here : IsReading text spec.names program names = subst (λ (s : SpecTree). IsReading text s.names program names) same read in
             let both : (written.program ≡ program) × (spec.names ≡ names) =
             one_reading text spec.names written.program program spec.names names names_distinct
@@ -124,8 +123,8 @@ module _ (meant : AreMeant) (search : Search) (bytes text : List ℕ) (spec : Sp
             (subst (λ (p : ProgramTree). Keeps (Some spec) spec.names p) both.0 keeps_with))
 
         by : IsGivenWith bytes part → Keeps (Some other) names program
-        by (inl is) = of_spec is
-        by (inr none) = absurd (there.0 none)
+        by (inl none) = absurd (there.0 none)
+        by (inr both) = of_spec (one_spec part other both.0 there.1 both.2 ∙ one_spec bytes both.0 spec both.1 spells)
 
   -- ---- its runs
 

@@ -154,7 +154,8 @@ pub fn verdicts_are_those_of_runs()
 {}
 
 /// A program that `synth` wrote has no verdict that a formula fails, whether tables or machine words give
-/// the interpretation, where it is run with the specification that it was written from, or with none.
+/// the interpretation, where it is run with the specification that it was written from, in any text that
+/// spells it, or with none.
 pub fn written_programs_do_not_fail()
     ensures { (sizes : SynthSizes) (specification text bytes : List ℕ) (reply : Reply) →
         Promise (Synth sizes) Status.Done specification text → RunsProgramOf specification text bytes →
