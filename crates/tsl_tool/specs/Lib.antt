@@ -7,4 +7,5 @@ pub mod Outcome
 pub mod Promise
 pub mod Limits
 pub mod Tasks
+pub mod WrittenCircuits
 pub mod WrittenPrograms
