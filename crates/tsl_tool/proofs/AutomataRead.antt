@@ -1,6 +1,6 @@
 -- What `automaton` writes is read by `accepts`, which says yes exactly where the formula fails on the loop.
-use Rattle.std.proofs.Common.{◌≡◌, ◌∙◌, ◌↔◌, ℕ, ◌+◌, ◌-◌, ◌<◌, ◌≤◌, ◌^◌, Bool, true, false, not, List, [], ◌∷◌, ◌++◌, length, map, take, drop}
-use Rattle.std.proofs.Common.{refl, sym, ap, subst, arith, nat_lt, bit_or}
+use Rattle.std.proofs.Common.{◌≡◌, ◌∙◌, ◌↔◌, ℕ, ◌<◌, ◌≤◌, ◌^◌, Bool, true, not, List, [], ◌∷◌, length, drop}
+use Rattle.std.proofs.Common.{sym, ap, subst, arith, nat_lt}
 use Rattle.std.specs.List.{list_all, AllByRecursion}
 use Rattle.std.proofs.lemmas.Bool.{and_parts, ltb-true}
 use Rattle.std.proofs.lemmas.List.{length-drop, length-map, take-append-drop}
@@ -9,26 +9,25 @@ use Rattle.std.proofs.lemmas.Option.{slice_get_within}
 use Rattle.sequence.proofs.Booleans.{same_tests}
 use Rattle.sequence.proofs.Each.{each_weaker, each_map}
 use Rattle.sequence.proofs.Passes.{each_from_list_all}
-use Rattle.letter_text.specs.LetterText.{LoopTree, IsLoop, loop_text}
+use Rattle.letter_text.specs.LetterText.{LoopTree, IsLoop}
 use Rattle.letter_text.proofs.LoopLaws.{one_loop}
 use Rattle.tsl_terms.specs.declared.operator.UnaryOperator.TheVariants.{Negation}
 use Rattle.tsl_terms.specs.FormulaTree.{unary}
 use Rattle.tsl_terms.specs.SpecTree.{SpecTree, whole_formula}
 use Rattle.tsl_terms.specs.WellFormed.{SpecFits}
 use Rattle.ltl_formula.specs.LetterLoop.{LetterLoop, holds}
-use Rattle.letter_space.specs.SpaceTree.{SpaceTree, bit_count, IsSpace}
+use Rattle.letter_space.specs.SpaceTree.{bit_count, IsSpace}
 use Rattle.letter_space.specs.SpecSpace.{spec_space}
 use Rattle.letter_space.specs.Letters.{with_bit}
 use Rattle.letter_space.proofs.SpecSpaces.{spec_is_space}
 use Rattle.underapprox.proofs.Agreement.{form_is_read}
-use Rattle.cobuchi_automata.specs.Automata.{StateTree, EdgeTree, IsOfChoice, IsAutomaton, untils_of, start_state, state_after}
+use Rattle.cobuchi_automata.specs.Automata.{EdgeTree, IsOfChoice, untils_of, start_state, state_after}
 use Rattle.cobuchi_automata.specs.Paths.{FitsLetters}
 use Rattle.cobuchi_automata.proofs.AutomatonLemmas.{renumbered}
 use Rattle.loop_acceptance.specs.Accepts.{Accepts, loop_of}
 use Rattle.loop_acceptance.proofs.AcceptedLoops.{accepts_where_it_holds}
 use Rattle.automaton_text.specs.BitNames.{bit_names}
 use Rattle.automaton_text.specs.HoaText.{IsEdgeOf, IsHoa, IsHoaText, grouped}
-use Rattle.automaton_text.specs.HoaRefusals.{IsSmall}
 use Rattle.automaton_text.proofs.WrittenRead.{read_back}
 use Rattle.tool_ends.specs.declared.reply.Reply.{Reply}
 use Rattle.exchange_replies.specs.Letters.{with_bits, letter_of, letters_of}

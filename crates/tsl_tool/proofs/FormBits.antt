@@ -1,5 +1,5 @@
 -- The letter forms of a specification have bits of its space alone.
-use Rattle.std.proofs.Common.{◌≡◌, ℕ, ◌+◌, ◌<◌, ◌==◌, Bool, true, false, cond, List, [], ◌∷◌, length, refl, sym, ap, arith}
+use Rattle.std.proofs.Common.{◌≡◌, ℕ, ◌+◌, ◌<◌, ◌==◌, Bool, true, false, cond, List, [], ◌∷◌, length, refl, arith}
 use Rattle.std.proofs.Common.{Option, Some, None, option_map, option_and_then}
 use Rattle.std.specs.List.{position}
 use Rattle.std.proofs.lemmas.Bool.{and_parts, eqb-true}
