@@ -100,6 +100,7 @@ mod top;
 
 pub use completeness::{answers_come, inputs_get_verdicts};
 pub use exchange_laws::{automata_are_read, circuits_run_as_programs};
+pub use generator::gen_text;
 pub use laws::{
     controllers_are_not_missed, ends_have_causes, limits_are_these, limits_are_told,
     one_specification, outcomes_keep_their_promise, plain_updates_are_spelled, proofs_are_verified,
