@@ -49,7 +49,7 @@ for table in "$here"/cases/*; do
         [ "$words" = - ] && words=
         eval "set -- $words"
         set +f
-        "$here/../crates/$program/out/$program" "$@" <"$made/in" >"$made/out" 2>"$made/err"
+        "$here/../out/$program" "$@" <"$made/in" >"$made/out" 2>"$made/err"
         got=$?
         if [ "$got" = "$status" ] && meets "$out" out && meets "$err" err; then
             passed=$((passed + 1))
