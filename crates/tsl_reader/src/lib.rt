@@ -35,7 +35,7 @@ mod text_names;
 mod uses;
 
 pub use laws::{
-    names_are_few, names_stand_in_order, one_cause, one_specification, spelled_specifications_fit,
+    clashes_are_those_of_written_uses, names_are_few, names_stand_in_order, one_cause, one_specification, spelled_specifications_fit,
     texts_without_definitions_are_their_sections,
 };
 pub use spec_syntax::{
