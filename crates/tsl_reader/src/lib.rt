@@ -35,8 +35,8 @@ mod text_names;
 mod uses;
 
 pub use laws::{
-    clashes_are_those_of_written_uses, names_are_few, names_stand_in_order, one_cause, one_specification, spelled_specifications_fit,
-    texts_without_definitions_are_their_sections,
+    clashes_are_those_of_written_uses, names_are_few, names_stand_in_order, one_cause,
+    one_specification, spelled_specifications_fit, texts_without_definitions_are_their_sections,
 };
 pub use spec_syntax::{
     declarations_have_one_reading, deep_faults_of_declarations_are_the_first,
