@@ -33,3 +33,4 @@ pub mod LevelsOfSizes
 pub mod ManyNodesAreTold
 pub mod FewNames
 pub mod WrittenClashes
+pub mod WithoutEquals

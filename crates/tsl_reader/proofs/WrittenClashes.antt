@@ -22,14 +22,18 @@ use Rattle.spec_syntax.specs.Syntax.{Terminal, SectionSyntax, Declaration}
 use Rattle.spec_syntax.specs.Grammar.{AreSections}
 use Rattle.spec_syntax.specs.Texts.{terminals}
 use Rattle.spec_syntax.proofs.DeclarationLaws.{sections_are_all}
+use Rattle.named_formulas.specs.ExpansionSizes.{number_in}
+use Rattle.named_formulas.specs.Folds.{depths}
 use Rattle.declared_names.specs.declared.occurrence.Role.TheVariants.{Plain}
 use Rattle.declared_names.specs.Occurrences.{Occurrence}
 use Rattle.declared_names.specs.Faults.{is_redefined, name_of, kind_fault_as, arity_fault_as, has_kind_fault, has_arity_fault}
-use Rattle.declared_names.specs.Faults.{is_unlike_first, is_unlike_name}
-use Rattle.declared_names.specs.WellDeclared.{heads_of, names_in}
+use Rattle.declared_names.specs.Faults.{is_unlike_first, is_unlike_name, is_used, passes_deepest}
+use Rattle.declared_names.specs.Heads.{definitions_in}
+use Rattle.declared_names.specs.WellDeclared.{heads_of, names_in, NoneOnCycle, is_use_too_deep}
 use Rattle.declared_names.proofs.WholeText.{nowhere}
 use Rattle.tsl_reader.specs.Naming.{written_uses}
-use Rattle.tsl_reader.specs.Spells.{deepest_level, Derives, IsFirstName, HasHeadFault, HasKindFault, HasArityFault}
+use Rattle.tsl_reader.specs.Spells.{deepest_level, Derives, IsFirstName, HasHeadFault, HasCycleFault, HasKindFault, HasArityFault}
+use Rattle.tsl_reader.specs.Spells.{HasDeepUse}
 use Rattle.tsl_reader.specs.WrittenClashes.{IsFirstClashAt}
 use Rattle.tsl_reader.proofs.Causes.{one_derivation}
 use Rattle.tsl_reader.proofs.Known.{like_first}
@@ -263,3 +267,15 @@ module _ (text : List ℕ) (tokens : List Token) (ss : List SectionSyntax) (star
   none_redefines h =
       let n = first_name (λ qs o. is_redefined o.role) h.derives h.named in
       none_never_some (position (λ (o : Occurrence). is_redefined o.role) os) n.at (none_redefined os us (names_plain ss)) n.first
+
+  pub none_on_cycle : HasCycleFault text start end → ⊥
+  none_on_cycle h =
+      let same = (one_derivation text h.tokens tokens h.own (terminals text tokens) h.declarations (as_text ss) h.derives mine).0 in
+      subst (λ qs. NoneOnCycle (definitions_in qs)) (sym same) (no_cycle ss) h.number h.cycle.definition h.cycle.here h.cycle.reaches
+
+  pub none_too_deep : HasDeepUse text start end → ⊥
+  none_too_deep h =
+      let n = first_name (λ qs. is_use_too_deep (definitions_in qs)) h.derives h.named in
+      let t = first_told (is_use_too_deep (definitions_in (as_text ss))) os n.at n.first in
+      let deep : Bool = passes_deepest t.0.level (number_in depths (definitions_in (as_text ss)) t.0.text) in
+      true≢false (sym t.2 ∙ ap (λ r. is_used r && (t.0.in_section && deep)) (plain_at os us (names_plain ss) n.at t.0 t.1))
