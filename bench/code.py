@@ -4,11 +4,13 @@
 Each program of examples/ that has tables or machine words and inputs, and COUNT random programs with names that languages reserve (30 without
 a number), is written in each language (c, python, javascript, rust), compiled where its compiler is (`cc`, `node`, `rustc`), and run on the
 same inputs. In each step the node that is set, the state, the cells and the outputs have to be those of the run; values come from the same
-tables. All programs of a language are compiled in one go, with all warnings of C as faults."""
+tables. All programs of a language are compiled in one go, with all warnings of C as faults. Where `yosys` is, the control of some examples in
+Verilog is read by it, and what it writes makes the updates of `tsl circuit` in all states and for all truths of the tests."""
 import itertools
 import json
 import pathlib
 import random
+import re
 import shutil
 import subprocess
 import sys
@@ -18,13 +20,16 @@ HERE = pathlib.Path(__file__).resolve().parent
 sys.dont_write_bytecode = True
 sys.path.insert(0, str(HERE.parent / "scripts"))
 from tslx import code  # noqa: E402
-from tslx.formulas import Apply, Signal, Test, Update  # noqa: E402
+from tslx.circuits import read_circuit, valuations  # noqa: E402
+from tslx.formulas import Apply, Signal, Test, Update, write_term, write_test  # noqa: E402
 from tslx.meanings import Inputs, Tables, read_inputs, read_meaning, truth_of, value_of, write_inputs, write_tables  # noqa: E402
 from tslx.programs import Branch, Leaf, Program, read_program, write_program  # noqa: E402
 from tslx.runs import read_run  # noqa: E402
+from tslx.specifications import read_specification, space_of  # noqa: E402
 
 PROGRAM = HERE.parent / "crates" / "tsl" / "out" / "tsl"
 LANGUAGES = {"c": "cc", "python": "python3", "javascript": "node", "rust": "rustc"}
+CONTROLS = ("first/lamp", "first/traffic_light", "everyday/garage_door", "turns/arbiter_of_three", "windows/raised_goal")
 
 
 def read(path):
@@ -300,11 +305,47 @@ def cases_of_examples():
                    read_inputs(part(given, "tslinputs 1")), read(path.with_suffix(".out")))
 
 
+def control_by_yosys(name, folder):
+    """Whether the Verilog of an example's program, as `yosys` reads it, does what its circuit does."""
+    text = read(HERE.parent / "examples" / f"{name}.tsl")
+    program = read(HERE.parent / "examples" / f"{name}.out")
+    answer = subprocess.run([PROGRAM, "circuit", "--bound", "15"], input=(text + program).encode("latin-1"), stdout=subprocess.PIPE, check=True).stdout
+    circuit = read_circuit(answer.decode("latin-1"))
+    space = space_of(read_specification(text))
+    updates = [f"{signal} {write_term(term)}" for signal in space.controlled for term in space.choices[signal]]
+    tests = list(map(write_test, space.tests))
+    (folder / "it.v").write_text(code.verilog("top", circuit, tests, updates))
+    script = "read_verilog it.v; proc; flatten; opt; techmap; dffunmap -srst-only; aigmap; opt_clean; write_aiger -symbols it.aig"
+    subprocess.run(["yosys", "-q", "-p", script], cwd=folder, check=True)
+    other = read_circuit((folder / "it.aig").read_bytes().decode("latin-1"))
+    place = {other.symbols[f"i{i}"]: i for i in range(len(other.inputs))}
+    ports = [re.match(r"// ([a-z0-9_]+): ", line, re.I) for line in (folder / "it.v").read_text().splitlines()]
+    ports = [it.group(1) for it in ports if it]
+    out = {other.symbols[f"o{i}"]: i for i in range(len(other.outputs))}
+    known, left = set(), [(circuit.start(), other.start())]
+    while left:
+        both = left.pop()
+        if both in known:
+            continue
+        known.add(both)
+        for valuation in valuations(len(tests)):
+            given = [False] * len(other.inputs)
+            for port, truth in zip(ports, valuation):
+                if port in place:
+                    given[place[port]] = truth
+            made, after = circuit.step(both[0], valuation)
+            made_there, after_there = other.step(both[1], given)
+            if made != [made_there[out[port]] for port in ports[len(tests):]]:
+                return False
+            left.append((after, after_there))
+    return True
+
+
 def main():
     words = sys.argv[1:]
     count = int(words.pop(0)) if words and words[0].isdigit() else 30
-    if set(words) - set(LANGUAGES):
-        raise SystemExit(f"the languages are {', '.join(LANGUAGES)}")
+    if set(words) - set(LANGUAGES) - {"verilog"}:
+        raise SystemExit(f"the languages are {', '.join(LANGUAGES)} and verilog")
     cases = list(cases_of_examples())
     if count and not PROGRAM.exists():
         raise SystemExit("random programs need the built program: ./tsl synth < examples/first/copy.tsl")
@@ -325,6 +366,14 @@ def main():
             print(f"{language}: {len(wrong)} of {len(wanted)} steps differ, {len(said)} were made; the first one: {wrong[:1]}")
         else:
             print(f"{language}: {len(cases)} programs, {len(wanted)} steps as in tsl run")
+    if not words or "verilog" in words:
+        if shutil.which("yosys") and PROGRAM.exists():
+            with tempfile.TemporaryDirectory() as name:
+                wrong = [control for control in CONTROLS if not control_by_yosys(control, pathlib.Path(name))]
+            failed += len(wrong)
+            print(f"verilog: {len(CONTROLS)} controls, {len(wrong)} of them differ: {' '.join(wrong)}".rstrip(": "))
+        else:
+            print("verilog: passed over, since yosys is not installed")
     sys.exit(1 if failed else 0)
 
 

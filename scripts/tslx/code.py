@@ -2,9 +2,11 @@
 import re
 from typing import Callable, Dict, FrozenSet, List, Tuple, Union
 
-from .circuits import Circuit
-from .formulas import Apply, Signal, Term, Test
+from .calling import Stop, ask, gathered, number_in, parts_of_text, program_in, refused, title_of, words_of, write_out
+from .circuits import Circuit, read_circuit
+from .formulas import Apply, Signal, Term, Test, Update, write_test, write_update
 from .programs import Branch, Leaf, Node, Program
+from .specifications import read_specification, space_of
 
 # A branch that stands deeper than this in a function begins a function of its own, and so does a node that several lead to, but for leaves
 # with few terms; a term that is nested deeper is computed in parts. So the text is about as long as the program, and no compiler meets its
@@ -635,3 +637,45 @@ def verilog(name: str, circuit: Circuit, tests: List[str], updates: List[str]) -
         lines.append("    end")
     lines.append("endmodule")
     return "\n".join(lines) + "\n"
+
+
+# ---- the command ----
+
+HELP = """tslx code c|python|javascript|rust [--name NAME] [FILE]..
+    The program in FILE, or in standard input, as a step function: a record of inputs goes in, one of outputs comes out, and cells stand in a
+    state that the caller keeps. Functions and predicates are the device's. NAME is the name of the file without it. A name that the language
+    reserves, or cannot spell, is spelled otherwise, never two alike; a comment tells which. A specification may stand before the program.
+tslx code verilog [--name NAME] [--bound K] [FILE]..
+    The control alone, as a module: tests go in, and updates come out. It reads a specification and a program, as tsl circuit does, which has
+    to accept the program within the bound K, from 0 to 15; 2 by default.
+"""
+USAGE = "code takes a language (c, python, javascript, rust or verilog) and files; tslx code --help tells more"
+
+
+def run(words: List[str]) -> int:
+    """`tslx code`."""
+    options, others = words_of(words, {"--name": "a name", "--bound": "a number from 0 to 15"}, 1, None, USAGE)
+    language, files = others[0], others[1:]
+    if language not in LANGUAGES and language != "verilog":
+        raise Stop(f"no language {language}: c, python, javascript, rust or verilog")
+    if "--bound" in options and language != "verilog":
+        raise Stop("--bound goes with verilog alone")
+    bound = number_in(options, "--bound", 0, 15, 2)
+    name = options.get("--name", title_of(files))
+    if not re.search("[A-Za-z0-9]", name):
+        raise Stop("--name takes a name with a letter or a digit")
+    given = gathered(files)
+    if language != "verilog":
+        write_out(code(language, name, program_in(given)))
+        return 0
+    asked = ["circuit", "--bound", str(bound)]
+    answer = ask(asked, given.text)
+    if answer.status == 1:
+        raise Stop(f"the program has no circuit, since check says: {answer.out.strip()}", 1)
+    if answer.status:
+        refused(asked, given, answer)
+    circuit = read_circuit(answer.out)
+    space = space_of(read_specification(parts_of_text(given.text)[0]))
+    updates = [write_update(Update(Signal(signal), term)) for signal in space.controlled for term in space.choices[signal]]
+    write_out(verilog(name, circuit, list(map(write_test, space.tests)), updates))
+    return 0
