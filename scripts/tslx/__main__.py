@@ -22,6 +22,16 @@ COMMANDS.update({
     "names": ("names", "names FILE..|inputs, cells, outputs, what each may take, and traps"),
     "tables": ("skeleton", "tables [--words BITS] FILE..|tables and inputs that fit a specification, to fill in"),
     "assumed": ("assumed", "assumed FILE..|whether a run keeps what the specification assumes"),
+    "core": ("core", "core [OPTION].. FILE|which guarantees clash, where an environment wins"),
+    "simplify": ("simplify", "simplify [OPTION].. FILE..|a smaller program, which check accepts too"),
+    "split": ("split", "split SPEC FOLDER|the parts of a specification that can be answered alone"),
+    "code": ("code", "code LANGUAGE [FILE]..|a program in c, python, javascript, rust or verilog"),
+    "play": ("play", "play FILE..|a page on which one plays against a program or an environment"),
+    "wave": ("wave", "wave FILE..|a run as waveforms, as a picture"),
+    "vcd": ("vcd", "vcd FILE..|a run for viewers of waveforms"),
+    "draw": ("draw", "draw [OPTION].. [FILE]|a picture of a program, an environment or an automaton"),
+    "tlsf": ("tlsf", "tlsf [FILE]|a specification for other tools of synthesis"),
+    "back": ("back", "back SPEC CIRCUIT|a circuit of another tool as a program"),
 })
 
 FIRST = """tslx synth|check|run|prove|recheck|circuit|automaton|accepts [OPTION].. [FILE]..

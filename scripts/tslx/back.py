@@ -1,11 +1,14 @@
 """`tslx back`: a circuit of another tool as a program, which `tsl check` accepts or not."""
 from typing import Dict, List, Tuple
 
-from .circuits import Circuit, valuations
+from .circuits import Circuit, read_circuit, valuations
+from .files import Stop, gather, read_file, shown, write
 from .formulas import Signal, Update
-from .programs import Branch, Leaf, Node, Program
+from .given import options_of, program_in, specification_in
+from .programs import Branch, Leaf, Node, Program, write_program
 from .specifications import Specification, space_of
 from .tlsf import propositions
+from .tokens import Unreadable
 
 MOST_STATES = 64
 MOST_VALUATIONS = 1024
@@ -87,3 +90,31 @@ def back(spec: Specification, circuit: Circuit) -> Program:
             return yes if yes == no else number_of(Branch(space.tests[len(asked)], yes, no))
         entries.append(tree(()))
     return Program(space.inputs, space.cells, space.outputs, [], nodes, entries)
+
+
+# ---- the command ----
+
+HELP = f"""tslx back [--windows PROGRAM] SPECIFICATION CIRCUIT
+A circuit in the AIGER form, binary or ASCII, as a program: its inputs are the tests and its outputs the updates, by its table of symbols, as tslx
+tlsf names them or as they are written, or else by the order of tsl circuit. In each state that it comes to, for all truths of the tests, it
+has to make exactly one update of each cell and output. It may come to {MOST_STATES} states, and there may be {MOST_VALUATIONS} truths of the tests.
+Whether the program is right tslx check says.
+  --windows PROGRAM the program has the windows of another one: a circuit has none
+"""
+
+
+def main(words: List[str]) -> int:
+    """Writes the program of a circuit."""
+    options, files = options_of("back", words, {"--windows": "the file of a program"}, 2, 2, "a specification and a circuit")
+    windows = program_in(gather([options["--windows"]])).windows if "--windows" in options else []
+    spec = specification_in(gather(files[:1]))
+    try:
+        circuit = read_circuit(read_file(files[1]).decode("latin-1"))
+        program = back(spec, circuit)
+    except Unreadable as fault:
+        raise Stop(f"{shown(files[1])}: {fault.said}", 3)
+    except Refused as why:
+        raise Stop(str(why), 1)
+    program.windows = windows
+    write(write_program(program))
+    return 0

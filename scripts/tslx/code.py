@@ -2,9 +2,11 @@
 import re
 from typing import Callable, Dict, FrozenSet, List, Tuple, Union
 
-from .calling import Stop, ask, gathered, number_in, parts_of_text, program_in, refused, title_of, words_of, write_out
+from .asking import ask
 from .circuits import Circuit, read_circuit
+from .files import Stop, gather, shown, write
 from .formulas import Apply, Signal, Term, Test, Update, write_test, write_update
+from .given import number_in, options_of, parts_of_text, program_in, refused, title_of
 from .programs import Branch, Leaf, Node, Program
 from .specifications import read_specification, space_of
 
@@ -649,33 +651,31 @@ tslx code verilog [--name NAME] [--bound K] [FILE]..
     The control alone, as a module: tests go in, and updates come out. It reads a specification and a program, as tsl circuit does, which has
     to accept the program within the bound K, from 0 to 15; 2 by default.
 """
-USAGE = "code takes a language (c, python, javascript, rust or verilog) and files; tslx code --help tells more"
 
 
-def run(words: List[str]) -> int:
-    """`tslx code`."""
-    options, others = words_of(words, {"--name": "a name", "--bound": "a number from 0 to 15"}, 1, None, USAGE)
+def main(words: List[str]) -> int:
+    """Writes a program in another language."""
+    options, others = options_of("code", words, {"--name": "a name", "--bound": "0 to 15"}, 1, None,
+                                 "a language (c, python, javascript, rust or verilog) and files")
     language, files = others[0], others[1:]
     if language not in LANGUAGES and language != "verilog":
-        raise Stop(f"no language {language}: c, python, javascript, rust or verilog")
+        raise Stop(f"code knows no language {shown(language)}: c, python, javascript, rust or verilog")
     if "--bound" in options and language != "verilog":
         raise Stop("--bound goes with verilog alone")
     bound = number_in(options, "--bound", 0, 15, 2)
     name = options.get("--name", title_of(files))
     if not re.search("[A-Za-z0-9]", name):
         raise Stop("--name takes a name with a letter or a digit")
-    given = gathered(files)
+    gathered = gather(files)
     if language != "verilog":
-        write_out(code(language, name, program_in(given)))
+        write(code(language, name, program_in(gathered)))
         return 0
-    asked = ["circuit", "--bound", str(bound)]
-    answer = ask(asked, given.text)
+    answer = ask(["circuit", "--bound", str(bound)], gathered.data)
     if answer.status == 1:
-        raise Stop(f"the program has no circuit, since check says: {answer.out.strip()}", 1)
+        raise Stop(f"check does not accept the program, so there is no circuit: {answer.out.strip()}", 1)
     if answer.status:
-        refused(asked, given, answer)
-    circuit = read_circuit(answer.out)
-    space = space_of(read_specification(parts_of_text(given.text)[0]))
+        refused(answer, gathered)
+    space = space_of(read_specification(parts_of_text(gathered.text)[0]))
     updates = [write_update(Update(Signal(signal), term)) for signal in space.controlled for term in space.choices[signal]]
-    write_out(verilog(name, circuit, list(map(write_test, space.tests)), updates))
+    write(verilog(name, read_circuit(answer.out), list(map(write_test, space.tests)), updates))
     return 0

@@ -2,9 +2,12 @@
 from dataclasses import dataclass, field, replace
 from typing import Callable, Dict, Iterator, List, Optional, Tuple
 
-from .formulas import Formula, Joined, Pair, Prefixed, Test, Truth, Update, atoms, write_formula, write_test
-from .programs import Branch, Leaf, Node, Program, Window
-from .specifications import Item, Specification
+from .asking import ask
+from .files import Stop, gather, tell, write
+from .formulas import Formula, Joined, Pair, Prefixed, Test, Truth, write_formula, write_test
+from .given import number_in, options_of, parts_of_text, program_in, refused
+from .programs import Branch, Leaf, Node, Program, write_program
+from .specifications import Item, Specification, read_specification
 
 MOST_PATHS = 4096
 
@@ -240,3 +243,41 @@ def account(spec: Specification, program: Program, changes: Changes, result: Pro
 def counted(count: int, noun: str) -> str:
     """A number of things."""
     return f"{count} {noun}" + ("" if count == 1 else "s")
+
+
+# ---- the command ----
+
+HELP = """tslx simplify [--bound K] [--most N] FILE..
+The files are a specification and a program that check accepts within the bound K, 0 to 15, 2 by default. Writes a program that it accepts, too,
+with fewer nodes, states and windows: a branch stands in place of a test, a state in place of another one, and nodes that are alike are one.
+What went, and why, is told on the error output: mostly what a program does once an assumption is broken.
+  --bound K         0 to 15; 2 by default: the bound of check
+  --most N          1 to 100000; 2000 by default: how often check is asked at most
+"""
+
+
+def main(words: List[str]) -> int:
+    """Writes a smaller program."""
+    options, files = options_of("simplify", words, {"--bound": "0 to 15", "--most": "1 to 100000"}, 1, None, "the files of a specification and a program")
+    bound, most = number_in(options, "--bound", 0, 15, 2), number_in(options, "--most", 1, 100000, 2000)
+    gathered = gather(files)
+    asked = ["check", "--bound", str(bound)]
+    program = program_in(gathered)
+    answer = ask(asked, gathered.data)
+    if answer.status > 1:
+        refused(answer, gathered)
+    if answer.status:
+        raise Stop(f"check does not accept the program as it is: {answer.out.strip()}", 1)
+    text = parts_of_text(gathered.text)[0]
+
+    def accepts(it: Program) -> bool:
+        """Whether `check` accepts a program."""
+        return ask(asked, text + write_program(it)).status == 0
+    it = Simplifier(program, accepts, most)
+    result = it.go()
+    for said in account(read_specification(text), program, it.kept, result):
+        tell("tslx: " + said)
+    if it.asked >= most:
+        tell(f"tslx: {most} questions were asked, and more could go")
+    write(write_program(result))
+    return 0

@@ -2,7 +2,9 @@
 import re
 from typing import Dict, List, Tuple
 
+from .files import gather, write
 from .formulas import Formula, Joined, Pair, Prefixed, Signal, Test, Truth, Update, write_test, write_update
+from .given import options_of, specification_in, title_of
 from .specifications import Space, Specification, space_of
 
 WORDS = frozenset("""
@@ -74,3 +76,20 @@ def tlsf(spec: Specification, title: str) -> str:
         if parts[kind]:
             lines += [f"  {title_of} {{", *(f"    {it};" for it in parts[kind]), "  }"]
     return "\n".join([*lines, "}"]) + "\n"
+
+
+# ---- the command ----
+
+HELP = """tslx tlsf [--title TITLE] [FILE]
+The specification in FILE, or in standard input, as a text in the Basic format of TLSF, for other tools of synthesis: the tests of a step are
+inputs, its updates outputs, each cell and output takes exactly one update, and comments tell which name stands for what. A system that such a
+tool finds comes back by tslx back.
+  --title TITLE     the title; without it the name of the file
+"""
+
+
+def main(words: List[str]) -> int:
+    """Writes a specification as TLSF."""
+    options, files = options_of("tlsf", words, {"--title": "a title"}, 0, 1, "one file")
+    write(tlsf(specification_in(gather(files)), options.get("--title", title_of(files))))
+    return 0
