@@ -14,13 +14,11 @@ weak strong implication in enum otherwise x f g u w r m v xor elem cup cap setmi
 """.split())
 
 
-def propositions(space: Space) -> Tuple[Dict[str, str], List[str], List[Tuple[str, List[str]]]]:
-    """A name for each test and update, never one for two; the tests as they are written; and for each signal its updates so."""
+def spelled_apart(texts: List[str]) -> Dict[str, str]:
+    """A name of small letters, digits and underscores for each text, never one for two, and none that is a word of TLSF or of its formulas."""
     names: Dict[str, str] = {}
     taken = set(WORDS)
-    tests = list(map(write_test, space.tests))
-    updates = [(name, [write_update(Update(Signal(name), term)) for term in space.choices[name]]) for name in space.controlled]
-    for text in tests + [it for _, own in updates for it in own]:
+    for text in texts:
         said = re.sub(r"_+", "_", re.sub(r"[^a-z0-9]", "_", text.lower().replace("<-", "gets"))).strip("_")
         said = said if said[:1].isalpha() else "n" + said
         number, base = 1, said
@@ -29,7 +27,14 @@ def propositions(space: Space) -> Tuple[Dict[str, str], List[str], List[Tuple[st
             said = f"{base}_{number}"
         names[text] = said
         taken.add(said)
-    return names, tests, updates
+    return names
+
+
+def propositions(space: Space) -> Tuple[Dict[str, str], List[str], List[Tuple[str, List[str]]]]:
+    """A name for each test and update, never one for two; the tests as they are written; and for each signal its updates so."""
+    tests = list(map(write_test, space.tests))
+    updates = [(name, [write_update(Update(Signal(name), term)) for term in space.choices[name]]) for name in space.controlled]
+    return spelled_apart(tests + [it for _, own in updates for it in own]), tests, updates
 
 
 def formula_text(formula: Formula, names: Dict[str, str]) -> str:
