@@ -180,7 +180,7 @@ def automaton_text(it: Automaton, title: str) -> List[str]:
 def drawing(text: str, title: str, output: Optional[str]) -> List[str]:
     """The lines of the drawing of a text."""
     if not text:
-        raise Stop("draw: the text is empty", 3)
+        raise Stop("the text is empty", 3)
     first = text.split("\n")[0]
     if output is not None and first != HEAD:
         raise Stop("--output goes with a program alone")
@@ -194,12 +194,12 @@ def drawing(text: str, title: str, output: Optional[str]) -> List[str]:
             none: NoneText = read_none(text)
             environment = none.environment or (none.rounds[-1].environment if none.rounds else None)
             if environment is None:
-                raise Stop("draw: this none has no environment", 3)
+                raise Stop("this none has no environment", 3)
             return environment_text(environment, title)
     except Unreadable as fault:
         kind = {HEAD: "program", "none": "none text"}.get(first, "automaton")
-        raise Stop(f"draw: this is no whole {kind}: {'line ' + str(fault.line) + ': ' if fault.line else ''}{fault.said}", 3)
-    raise Stop("draw: the first line is neither tslprogram 1 nor none nor HOA: v1", 3)
+        raise Stop(f"this is no whole {kind}: {'line ' + str(fault.line) + ': ' if fault.line else ''}{fault.said}", 3)
+    raise Stop("the first line is neither tslprogram 1 nor none nor HOA: v1", 3)
 
 
 def main(words: List[str]) -> int:
