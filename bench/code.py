@@ -27,7 +27,7 @@ from tslx.programs import Branch, Leaf, Program, read_program, write_program  # 
 from tslx.runs import read_run  # noqa: E402
 from tslx.specifications import read_specification, space_of  # noqa: E402
 
-PROGRAM = HERE.parent / "crates" / "tsl" / "out" / "tsl"
+PROGRAM = HERE.parent / "out" / "tsl"
 LANGUAGES = {"c": "cc", "python": "python3", "javascript": "node", "rust": "rustc"}
 CONTROLS = ("first/lamp", "first/traffic_light", "everyday/garage_door", "turns/arbiter_of_three", "windows/raised_goal")
 

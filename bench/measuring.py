@@ -7,12 +7,12 @@ import subprocess
 import tempfile
 
 HERE = pathlib.Path(__file__).resolve().parent
-PROGRAM = HERE.parent / "crates" / "tsl" / "out" / "tsl"
-SOLVER = HERE.parent / "crates" / "solve" / "out" / "solve"
+PROGRAM = HERE.parent / "out" / "tsl"
+SOLVER = HERE.parent / "out" / "solve"
 
 
 @contextlib.contextmanager
-def built(program=PROGRAM, builds="./tsl synth < examples/first/copy.tsl"):
+def built(program=PROGRAM, builds="./tsl --built"):
     """A folder to build in, with `measure` built there. The program has to be there."""
     if not program.exists():
         raise SystemExit(f"build the program first: {builds}")

@@ -57,6 +57,9 @@ def command(words: List[str]) -> int:
     if words[0] in ("--help", "-h", "help"):
         write(help_text())
         return 0
+    if words[0] == "--version":
+        write("tslx 1, for tslprogram 1, tsltables 1, tslwords 1, tslinputs 1\n")
+        return 0
     if words[0] not in COMMANDS:
         raise Stop(f"no command {shown(words[0])}; tslx --help tells them")
     module = import_module("tslx." + COMMANDS[words[0]][0])

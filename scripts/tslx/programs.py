@@ -4,9 +4,7 @@ from dataclasses import dataclass, field
 from typing import Dict, Iterator, List, Optional, Tuple, Union
 
 from .formulas import Test, Update, test_of, update_of, write_test, write_update
-from .tokens import Unreadable, lines_of
-
-HEAD = "tslprogram 1"
+from .tokens import HEAD, Unreadable, lines_of
 
 
 @dataclass(frozen=True)

@@ -61,8 +61,12 @@ def read_run(text: str) -> Run:
         loop, window, formula = LOOP.match(said), WINDOW.match(said), FORMULA.match(said)
         if run.loop_start < 0 and said.startswith("at "):
             run.steps.append(read_step(said, number))
+            if run.steps[-1].at != len(run.steps) - 1:
+                raise Unreadable(f"step {len(run.steps) - 1} of the run is missing", number)
         elif run.loop_start < 0 and loop and run.steps:
             run.loop_start, run.loop_length = int(loop.group(1)), int(loop.group(2))
+            if run.loop_length == 0 or run.loop_start + run.loop_length != len(run.steps):
+                raise Unreadable("the loop of the run is not made of its last steps", number)
         elif run.loop_start >= 0 and run.formula is None and window and int(window.group(1)) == len(run.windows):
             run.windows.append(window.group(2) == "holds")
         elif run.loop_start >= 0 and run.formula is None and formula:

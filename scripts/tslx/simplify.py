@@ -278,6 +278,6 @@ def main(words: List[str]) -> int:
     for said in account(read_specification(text), program, it.kept, result):
         tell("tslx: " + said)
     if it.asked >= most:
-        tell(f"tslx: {most} questions were asked, and more could go")
+        tell(f"tslx: {counted(most, 'question')} asked, and more could go")
     write(write_program(result))
     return 0

@@ -5,6 +5,8 @@ from typing import Iterator, List, NoReturn, Optional, Tuple
 
 RESERVED = frozenset("assume guarantee always initially true false X F G U W R A".split())
 KINDS_OF_SECTION = ("assume", "guarantee")
+# The first line of a program.
+HEAD = "tslprogram 1"
 BEGINS_SECTION = frozenset(("assume", "guarantee", "always", "initially"))
 
 TOKEN = re.compile(r"[A-Za-z_][A-Za-z0-9_']*|[0-9]+|<->|&&|\|\||->|<-|[{}()\[\];!?=]")

@@ -1,9 +1,7 @@
-//! Automata against those that a plain program works out from the definitions, and what is refused.
+//! Automata against those that a plain program works out from the definitions.
 
-use cobuchi_automata::{
-    Automaton, BuildError, Edge, MOST_AUTOMATON_EDGES, MOST_AUTOMATON_STATES, build,
-};
-use logic_values::{always, both, either, next};
+use cobuchi_automata::{Automaton, Edge, build};
+use logic_values::next;
 use ltl_formula::{Ltl, LtlList};
 use std::alloc::Global;
 use std::process::Abort;
@@ -57,7 +55,7 @@ fn formula_of(
 
 /// The formula that a text spells, operands first: `t`, `f`, a digit for a bit that is set, a letter from
 /// `a` for one that is not, `X`, `U`, `R`, and `&` and `|` over all since the last `(`.
-pub(crate) fn formula(alloc: Global, text: &[u8]) -> Result<Ltl, Fail> {
+fn formula(alloc: Global, text: &[u8]) -> Result<Ltl, Fail> {
     let mut formulas = Vec::new(alloc);
     let mut marks = Vec::new(alloc);
     for byte in text {
@@ -118,38 +116,6 @@ fn constants_and_bits(rt: HostRuntime) -> Result<(), Fail> {
     are_built(&rt, rt.alloc(), CONSTANTS)
 }
 
-/// Next positions, and their automata.
-const NEXT: &[(&[u8], &str)] = &[
-    (b"0X", "3, 0 0/0 1!, 1 1/1 2!, 2 0/0 2!"),
-    (b"0XX", "4, 0 0/0 1!, 1 0/0 2!, 2 1/1 3!, 3 0/0 3!"),
-    (b"(0Xa1X&", "3, 0 1/0 1!, 1 3/3 2!, 2 0/0 2!"),
-    (
-        b"(0Xb1|",
-        "3, 0 0/0 1!, 0 2/0 2!, 0 2/2 2!, 1 1/1 2!, 2 0/0 2!",
-    ),
-];
-
-#[test]
-fn next_positions(rt: HostRuntime) -> Result<(), Fail> {
-    are_built(&rt, rt.alloc(), NEXT)
-}
-
-/// Releases, and their automata.
-const RELEASES: &[(&[u8], &str)] = &[
-    (b"01R", "2, 0 3/3 1!, 0 2/2 0!, 1 0/0 1!"),
-    (b"f0R", "1, 0 1/1 0!"),
-    (b"1(10|R", "2, 0 2/2 1!, 0 1/1 0!, 1 0/0 1!"),
-    (
-        b"11(10|RR",
-        "3, 0 2/2 1!, 0 1/1 2!, 1 0/0 1!, 2 2/2 1!, 2 1/1 2!",
-    ),
-];
-
-#[test]
-fn releases(rt: HostRuntime) -> Result<(), Fail> {
-    are_built(&rt, rt.alloc(), RELEASES)
-}
-
 /// Untils, and their automata.
 const UNTILS: &[(&[u8], &str)] = &[
     (b"t0U", "2, 0 1/1 1!, 0 0/0 0, 1 0/0 1!"),
@@ -176,25 +142,6 @@ const UNTILS: &[(&[u8], &str)] = &[
 #[test]
 fn untils(rt: HostRuntime) -> Result<(), Fail> {
     are_built(&rt, rt.alloc(), UNTILS)
-}
-
-/// Untils and releases, and their automata.
-const MIXED: &[(&[u8], &str)] = &[
-    (b"tf0RU", "2, 0 1/1 1!, 0 0/0 0, 1 1/1 1!"),
-    (b"ft0UR", "2, 0 1/1 0!, 0 0/0 1, 1 1/1 0!, 1 0/0 1"),
-    (
-        b"f(at1U|R",
-        "2, 0 1/0 0!, 0 2/2 0!, 0 0/0 1, 1 2/2 0!, 1 0/0 1",
-    ),
-    (
-        b"(ft0URf1R&",
-        "3, 0 3/3 1!, 0 2/2 2, 1 3/3 1!, 1 2/2 2, 2 3/3 1!, 2 2/2 2",
-    ),
-];
-
-#[test]
-fn untils_and_releases(rt: HostRuntime) -> Result<(), Fail> {
-    are_built(&rt, rt.alloc(), MIXED)
 }
 
 /// Several untils, and their automata.
@@ -224,96 +171,4 @@ const SEVERAL: &[(&[u8], &str)] = &[
 #[test]
 fn several_untils_are_waited_for_in_turn(rt: HostRuntime) -> Result<(), Fail> {
     are_built(&rt, rt.alloc(), SEVERAL)
-}
-
-/// Choices that differ in what is put off, and their automata.
-const PUT_OFF: &[(&[u8], &str)] = &[(b"(t(ff|U((tfUt(|UX&(t(|UtfUX&|&", "2, 0 0/0 1, 1 0/0 1")];
-
-#[test]
-fn choices_that_differ_in_what_is_put_off_alone_give_one_edge(rt: HostRuntime) -> Result<(), Fail> {
-    are_built(&rt, rt.alloc(), PUT_OFF)
-}
-
-/// The formula holds so many positions later.
-fn later_by(alloc: Global, count: u32, formula: Ltl) -> Result<Ltl, Fail> {
-    let mut later = formula;
-    for _ in 0..count {
-        later = next(alloc, later)?;
-    }
-    Ok(later)
-}
-
-/// Twelve positions after each at which bit 0 is set, bit 1 is: the states are the sets of positions
-/// that are waited for.
-fn twelve_later(alloc: Global) -> Result<Ltl, Fail> {
-    let later = later_by(alloc, 12, Ltl::Bit(1))?;
-    let response = either(alloc, Ltl::NotBit(0), later)?;
-    Ok(always(alloc, response)?)
-}
-
-/// How many states and edges an automaton has.
-fn sizes(alloc: Global, formula: &Ltl) -> Result<(u32, usize), BuildError> {
-    let automaton = build(alloc, formula)?;
-    Ok((automaton.states, automaton.edges.len()))
-}
-
-#[test]
-fn one_state_too_many_is_refused(rt: HostRuntime) -> Result<(), Fail> {
-    let alloc = rt.alloc();
-    let fits = twelve_later(alloc)?;
-    assert_eq!(rt; sizes(alloc, &fits), Ok((4_096, 8_192)));
-    assert_eq!(rt; MOST_AUTOMATON_STATES, 4_096);
-    let passes = both(alloc, fits, Ltl::True)?;
-    assert_eq!(rt; sizes(alloc, &passes), Err(BuildError::States));
-    Ok(())
-}
-
-/// One of so many bits from a first one on is set.
-fn one_of(alloc: Global, first: u32, count: u32) -> Result<Ltl, Fail> {
-    let mut members = Vec::new(alloc);
-    for bit in 0..count.min(64) {
-        members.push(Ltl::Bit(first.min(64) + bit))?;
-    }
-    Ok(Ltl::Any(LtlList::from_vec(alloc, members)?))
-}
-
-/// Always one of five bits, four times, and one of two, three times: it has 5,000 choices.
-fn many_choices(alloc: Global) -> Result<Ltl, Fail> {
-    let mut members = Vec::new(alloc);
-    for number in 0..4 {
-        members.push(one_of(alloc, number * 5, 5)?)?;
-    }
-    for number in 0..3 {
-        members.push(one_of(alloc, 20 + number * 2, 2)?)?;
-    }
-    Ok(always(alloc, Ltl::All(LtlList::from_vec(alloc, members)?))?)
-}
-
-#[test]
-fn one_edge_too_many_is_refused(rt: HostRuntime) -> Result<(), Fail> {
-    let alloc = rt.alloc();
-    let later = later_by(alloc, 38, Ltl::True)?;
-    let fits = both(alloc, many_choices(alloc)?, later)?;
-    assert_eq!(rt; sizes(alloc, &fits), Ok((40, 200_000)));
-    assert_eq!(rt; MOST_AUTOMATON_EDGES, 200_000);
-    let other = next(alloc, many_choices(alloc)?)?;
-    let passes = either(alloc, fits, both(alloc, Ltl::Bit(40), other)?)?;
-    assert_eq!(rt; sizes(alloc, &passes), Err(BuildError::Edges));
-    Ok(())
-}
-
-#[test]
-fn too_many_choices_are_refused(rt: HostRuntime) -> Result<(), Fail> {
-    let alloc = rt.alloc();
-    let mut members = Vec::new(alloc);
-    for number in 0..17 {
-        members.push(one_of(alloc, number * 2, 2)?)?;
-    }
-    let many = Ltl::All(LtlList::from_vec(alloc, members)?);
-    assert_eq!(rt; sizes(alloc, &many), Err(BuildError::Choices));
-    let later = next(alloc, many)?;
-    assert_eq!(rt; sizes(alloc, &later), Err(BuildError::Choices));
-    let never_reached = both(alloc, Ltl::False, later)?;
-    assert_eq!(rt; sizes(alloc, &never_reached), Ok((1, 0)));
-    Ok(())
 }

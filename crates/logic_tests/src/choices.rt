@@ -1,7 +1,7 @@
-//! How many choices a list may have, and that memory does not run out where there is ample.
+//! How many choices sets of formulas have.
 
 use ltl_formula::{Ltl, LtlList};
-use obligations::{MOST_CHOICES, Set, StepError, step};
+use obligations::{Set, StepError, step};
 use std::alloc::Global;
 use std::test::Fail;
 
@@ -17,14 +17,6 @@ fn either_bits(alloc: Global, count: u32) -> Result<Ltl, Fail> {
     Ok(Ltl::All(LtlList::from_vec(alloc, members)?))
 }
 
-/// That formula, or another one that has one choice more.
-fn or_next(alloc: Global, count: u32) -> Result<Ltl, Fail> {
-    let mut members = Vec::new(alloc);
-    members.push(either_bits(alloc, count)?)?;
-    members.push(Ltl::Next(Box::new(alloc, Ltl::True)?))?;
-    Ok(Ltl::Any(LtlList::from_vec(alloc, members)?))
-}
-
 /// How many choices a formula has, or none where a list has too many.
 fn count_of(alloc: Global, formula: &Ltl) -> Result<Option<usize>, Fail> {
     let set = Set::one(alloc, formula)?;
@@ -33,12 +25,6 @@ fn count_of(alloc: Global, formula: &Ltl) -> Result<Option<usize>, Fail> {
         Err(StepError::Choices) => Ok(None),
         Err(StepError::NoMemory) => Err("memory ran out".into()),
     }
-}
-
-#[test]
-fn a_list_has_at_most_65536_choices(rt: HostRuntime) -> Result<(), Fail> {
-    assert_eq!(rt; MOST_CHOICES, 65_536);
-    Ok(())
 }
 
 /// How many bits there are.
@@ -50,14 +36,5 @@ fn each_bit_doubles_the_choices(rt: HostRuntime) -> Result<(), Fail> {
         let formula = either_bits(rt.alloc(), count)?;
         assert_eq!(rt; count_of(rt.alloc(), &formula)?, Some(1 << count));
     }
-    Ok(())
-}
-
-#[test]
-fn one_choice_more_is_refused(rt: HostRuntime) -> Result<(), Fail> {
-    let fits = or_next(rt.alloc(), 15)?;
-    assert!(rt; count_of(rt.alloc(), &fits)?.is_some());
-    let passes = or_next(rt.alloc(), 16)?;
-    assert_eq!(rt; count_of(rt.alloc(), &passes)?, None);
     Ok(())
 }

@@ -1,49 +1,90 @@
-//! Tests of letter loops on which controllers fail.
+//! Letter loops on which controllers fail.
 
-use crate::controllers::{FOR_EVER, IN_TURN, example};
+ghost use Rattle.std.specs.Prelude.{◌≡◌, ◌∷◌, [], IfOk};
+ghost use Rattle.tsl_terms.specs.TermTree.{signal};
+ghost use Rattle.letter_space.specs.SpaceView.{space_tree};
+ghost use Rattle.machines.specs.MachineView.{controller_tree};
+ghost use Rattle.machines.specs.Moves.{FitsSpace};
+
 use cobuchi_automata::build;
 use full_bound::{LetterLoop, failing_loop};
+use letter_space::{Controlled, Space};
 use logic_values::space_of_spec;
+use machines::{Controller, Entry};
+use sequence::{NoMemory, Sequence};
 use spec_values::spec_of;
 use std::alloc::Global;
 use std::process::Abort;
 use std::test::Fail;
-use tsl_terms::{Formula, whole};
+use tsl_terms::{Formula, Term, whole};
 use underapprox::to_letters;
 
 /// Two updates that are wanted again and again, whose bits are 0 and 1.
 const TWO_WANTED: &[u8] = b"always guarantee { F [g <- a()]; F [g <- b()]; }";
 
-/// A letter loop on which a controller of these choices, whose bits are 0 and 1 too, fails to update so.
-fn failing(
-    rt: &impl Abort,
-    alloc: Global,
-    states: u32,
-    table: &[(u32, u32)],
-) -> Result<Option<LetterLoop>, Fail> {
+/// A signal that takes one of two terms, whose bits are 0 and 1 too.
+fn small_space(alloc: Global) -> Result<Space, NoMemory>
+    ensures { IfOk result (λ space. space_tree space ≡ record {
+      predicates = [];
+      controlled = record { signal = 0; choices = signal 1 ∷ signal 2 ∷ []; first = 0 } ∷ [];
+    }) }
+{
+    let choices = vec![in alloc; Term::Signal(1), Term::Signal(2)]?;
+    let controlled = Controlled {
+        signal: 0,
+        choices: Sequence::from_vec(choices),
+        first: 0,
+    };
+    Ok(Space {
+        predicates: Sequence::new(alloc),
+        controlled: Sequence::from_vec(vec![in alloc; controlled]?),
+    })
+}
+
+/// The controller of one state that always takes the first of one signal's terms.
+fn first_for_ever(alloc: Global) -> Result<Controller, NoMemory>
+    ensures { IfOk result (λ c. controller_tree c ≡ record {
+      states = 1;
+      valuations = 1;
+      entries = record { choices = 0 ∷ []; next = 0 } ∷ [];
+    }) }
+{
+    let entry = Entry {
+        choices: Sequence::from_vec(vec![in alloc; 0]?),
+        next: 0,
+    };
+    Ok(Controller {
+        states: 1,
+        valuations: 1,
+        entries: Sequence::from_vec(vec![in alloc; entry]?),
+    })
+}
+
+/// That space and that controller.
+fn example(alloc: Global) -> Result<(Space, Controller), NoMemory>
+    ensures { IfOk result (λ made. FitsSpace (space_tree made.0) (controller_tree made.1)) }
+{
+    Ok((small_space(alloc)?, first_for_ever(alloc)?))
+}
+
+/// A letter loop on which the controller fails to update so.
+fn failing(rt: &impl Abort, alloc: Global) -> Result<Option<LetterLoop>, Fail> {
     let spec = spec_of(alloc, TWO_WANTED)?;
     let negation = Formula::Not(Box::new(alloc, whole(alloc, &spec)?)?);
     let form = to_letters(alloc, &negation, &space_of_spec(alloc, &spec)?)?;
     let Ok(automaton) = build(alloc, &form) else {
         return Err("the automaton is too large".into());
     };
-    let (space, controller) = example(alloc, Vec::new(alloc), states, table)?;
+    let (space, controller) = example(alloc)?;
     assert!(rt; controller.states <= 64);
     Ok(failing_loop(alloc, &form, &automaton, &space, &controller)?)
 }
 
 #[test]
 fn one_update_for_ever_fails_where_two_are_wanted(rt: HostRuntime) -> Result<(), Fail> {
-    let found = failing(&rt, rt.alloc(), 1, FOR_EVER)?.expect(&rt, "it fails");
+    let found = failing(&rt, rt.alloc())?.expect(&rt, "it fails");
     for letter in found.letters.as_slice() {
         assert_eq!(rt; *letter, 1);
     }
-    Ok(())
-}
-
-#[test]
-fn both_updates_in_turn_fail_nowhere(rt: HostRuntime) -> Result<(), Fail> {
-    let found = failing(&rt, rt.alloc(), 2, IN_TURN)?;
-    assert!(rt; found.is_none());
     Ok(())
 }

@@ -21,7 +21,7 @@ pub fn clause(alloc: Global, numbers: &[i32]) -> Result<Clause, Fail> {
 }
 
 /// The clauses of these numbers.
-pub fn clauses_of(alloc: Global, lists: &[&[i32]]) -> Result<Vec<Clause>, Fail>
+fn clauses_of(alloc: Global, lists: &[&[i32]]) -> Result<Vec<Clause>, Fail>
     ensures { IfOk result (λ clauses. length clauses.items ≡ length lists.now) }
 {
     let mut clauses = Vec::new(alloc);
@@ -59,13 +59,4 @@ pub fn formula_of(alloc: Global, variables: u32, lists: &[&[i32]]) -> Result<Cnf
 {
     let clauses = clauses_of(alloc, lists)?;
     formula(alloc, variables, clauses.as_slice())
-}
-
-/// The numbers of the clause's literals.
-pub fn numbers_of(alloc: Global, clause: &Clause) -> Result<Vec<i32>, Fail> {
-    let mut numbers = Vec::new(alloc);
-    for literal in clause.literals() {
-        numbers.push(literal.number())?;
-    }
-    Ok(numbers)
 }

@@ -1,9 +1,5 @@
-//! Tests of program texts: their lines, how they are read and refused, and how programs are written.
+//! Tests of program texts: what is refused of them, and that one is written again as it was.
 #![tactic(auto)]
 
 #[cfg(test)]
-mod listings;
-#[cfg(test)]
 mod reading;
-#[cfg(test)]
-mod writing;

@@ -7,7 +7,7 @@ ghost use Rattle.program_tree.specs.ProgramView.{program_tree};
 ghost use Rattle.program_tree.specs.Writable.{IsWritable};
 
 use flow_program::{Program, ProgramError, read_program, write_program};
-use spec_values::{names_told, repeated};
+use spec_values::names_told;
 use std::alloc::Global;
 use std::process::Abort;
 use std::test::Fail;
@@ -364,61 +364,6 @@ const CHANGED: &[((usize, &[u8]), (usize, &[u8]), &str)] = &[
     ((1, b"tslprogram 2"), (0, b""), "Form(1)"),
 ];
 
-/// Texts, and the names that they have, each with its kind and how many arguments it takes.
-const NAMED: &[(&[u8], &str)] = &[
-    (b"tslprogram 1\nnode 0 set go 0\nstate 0 at 0\nend\n", ""),
-    // declarations come first, and uses that are no new names change nothing
-    (
-        b"tslprogram 1\ninput x\ncell c\noutput y\nnode 0 set [c <- c] [y <- x] go 0\nstate 0 at 0\nend\n",
-        "x:Signal0 c:Signal0 y:Signal0 ",
-    ),
-    // a function before its arguments
-    (
-        b"tslprogram 1\ninput x\noutput y\nnode 0 set [y <- g (f x) k()] go 0\nstate 0 at 0\nend\n",
-        "x:Signal0 y:Signal0 g:Function2 f:Function1 k:Function0 ",
-    ),
-    // `?` after the signal that it first tests
-    (
-        b"tslprogram 1\ninput a\ninput b\nnode 0 set go 0\nnode 1 if b then 0 else 0\nnode 2 if p a then 1 else 0\nstate 0 at 2\nend\n",
-        "a:Signal0 b:Signal0 ?:Predicate1 p:Predicate1 ",
-    ),
-    // windows before nodes
-    (
-        b"tslprogram 1\ninput a\ncell c\nwindow q a at 0 is q c at 1 when [c <- f a] at 0\nnode 0 set [c <- g a] go 0\nstate 0 at 0\nend\n",
-        "a:Signal0 c:Signal0 q:Predicate1 f:Function1 g:Function1 ",
-    ),
-    // of a window the left test, the right one, its updates and its equalities
-    (
-        b"tslprogram 1\ninput a\ncell c\nwindow q a at 0 is p a at 1 when [c <- f a] at 0 when eq a (g a) at 0 when eq c a at 1\n\
-node 0 set [c <- h a] go 0\nstate 0 at 0\nend\n",
-        "a:Signal0 c:Signal0 q:Predicate1 p:Predicate1 f:Function1 eq:Predicate2 g:Function1 h:Function1 ",
-    ),
-    (
-        b"tslprogram 1\ninput a\ncell c\nwindow true is eq c (f a) at 1 when [c <- g a] at 0\nnode 0 set [c <- a] go 0\nstate 0 at 0\nend\n",
-        "a:Signal0 c:Signal0 eq:Predicate2 f:Function1 g:Function1 ",
-    ),
-];
-
-/// A text whose names are given.
-const GIVEN: &[u8] =
-    b"tslprogram 1\ninput b\noutput y\nnode 0 set [y <- f b] go 0\nnode 1 if b then 0 else 0\nstate 0 at 1\nend\n";
-
-/// Texts, and the names that they have after the given ones, or the refusal.
-const AFTER_GIVEN: &[(&[u8], &str)] = &[
-    (
-        b"tslprogram 1\ninput a\ninput b\nnode 0 set go 0\nnode 1 if p a then 0 else 0\nnode 2 if a then 1 else 0\nstate 0 at 2\nend\n",
-        "b:Signal0 y:Signal0 f:Function1 ?:Predicate1 a:Signal0 p:Predicate1 ",
-    ),
-    (
-        b"tslprogram 1\ninput f\nnode 0 set go 0\nstate 0 at 0\nend\n",
-        "Kind(2, Name { start: 19, end: 20 })",
-    ),
-    (
-        b"tslprogram 1\noutput z\nnode 0 set [z <- f()] go 0\nstate 0 at 0\nend\n",
-        "Arity(3, Name { start: 39, end: 40 })",
-    ),
-];
-
 /// The lines of the program with two of them changed.
 fn changed(alloc: Global, first: (usize, &[u8]), second: (usize, &[u8])) -> Result<Vec<u8>, Fail> {
     let mut text = Vec::new(alloc);
@@ -493,36 +438,11 @@ fn names_after(
     }
 }
 
-/// What a text has before its windows, or nodes, or states.
-const FRONT: &[u8] = b"tslprogram 1\ninput x\ncell c\n";
-
 #[test]
 fn each_refusal_names_its_first_line(rt: HostRuntime) -> Result<(), Fail> {
     for &(first, second, expected) in CHANGED {
         let text = changed(rt.alloc(), first, second)?;
         assert_eq!(rt; outcome(&rt, rt.alloc(), &text)?.as_str(), expected);
-    }
-    Ok(())
-}
-
-#[test]
-fn names_go_on_by_first_appearance(rt: HostRuntime) -> Result<(), Fail> {
-    let nothing = b"tslprogram 1\nnode 0 set go 0\nstate 0 at 0\nend\n".as_slice();
-    for &(text, expected) in NAMED {
-        let names = names_after(&rt, rt.alloc(), nothing, text)?;
-        assert_eq!(rt; names.as_slice(), expected.as_bytes());
-        let names = names_after(&rt, rt.alloc(), text, text)?;
-        assert_eq!(rt; names.as_slice(), expected.as_bytes());
-    }
-    Ok(())
-}
-
-#[test]
-fn given_names_keep_their_numbers_and_kinds(rt: HostRuntime) -> Result<(), Fail> {
-    let alloc = rt.alloc();
-    for &(text, expected) in AFTER_GIVEN {
-        let names = names_after(&rt, alloc, GIVEN, text)?;
-        assert_eq!(rt; names.as_slice(), expected.as_bytes());
     }
     Ok(())
 }
@@ -534,50 +454,5 @@ fn a_text_is_written_again_as_it_was(rt: HostRuntime) -> Result<(), Fail> {
     let names = names_after(&rt, alloc, &text, &text)?;
     let expected = "x:Signal0 c:Signal0 d:Signal0 y:Signal0 p:Predicate1 f:Function1 ?:Predicate1 ";
     assert_eq!(rt; names.as_slice(), expected.as_bytes());
-    Ok(())
-}
-
-#[test]
-fn there_are_sixty_four_windows_at_most(rt: HostRuntime) -> Result<(), Fail> {
-    let window = b"window x at 0 is c at 2 when [c <- x] at 1\n";
-    let end = b"node 0 set [c <- c] go 0\nstate 0 at 0\nend\n";
-    for (times, expected) in [(64, "read"), (65, "Windows")] {
-        let text = repeated(rt.alloc(), FRONT, times, window, end)?;
-        assert_eq!(rt; outcome(&rt, rt.alloc(), &text)?.as_str(), expected);
-    }
-    Ok(())
-}
-
-/// A text with so many nodes and states: one node assigns, and each other one tests and leads to
-/// the node before it or to the first one.
-fn numbered(alloc: Global, nodes: u32, states: u32) -> Result<Vec<u8>, Fail> {
-    let mut text = Vec::from_slice(alloc, b"tslprogram 1\ninput x\nnode 0 set go 0\n")?;
-    for number in 1..nodes {
-        let line = format!(in alloc; "node {number} if p x then {} else 0\n", number - 1)?;
-        text.extend_from_slice(line.as_bytes())?;
-    }
-    for number in 0..states {
-        let line = format!(in alloc; "state {number} at 1\n")?;
-        text.extend_from_slice(line.as_bytes())?;
-    }
-    text.extend_from_slice(b"end\n")?;
-    Ok(text)
-}
-
-#[test]
-fn there_are_sixty_four_states_at_most(rt: HostRuntime) -> Result<(), Fail> {
-    for (states, expected) in [(64, "read"), (65, "States")] {
-        let text = numbered(rt.alloc(), 2, states)?;
-        assert_eq!(rt; outcome(&rt, rt.alloc(), &text)?.as_str(), expected);
-    }
-    Ok(())
-}
-
-#[test]
-fn the_largest_text_is_written_again_as_it_was(rt: HostRuntime) -> Result<(), Fail> {
-    let alloc = rt.alloc();
-    let text = numbered(alloc, 4_096, 64)?;
-    let names = written_names(&rt, alloc, &text, Names::new(alloc))?;
-    assert_eq!(rt; names.as_slice(), b"x:Signal0 p:Predicate1 ".as_slice());
     Ok(())
 }

@@ -1,11 +1,7 @@
-//! Tests of texts that are written: formulas, faults, the answers of searches, and automata.
+//! Tests of texts that are written: environments, rounds, and an automaton that was read.
 #![tactic(auto)]
 
 #[cfg(test)]
 mod automata;
-#[cfg(test)]
-mod faults;
-#[cfg(test)]
-mod formulas;
 #[cfg(test)]
 mod searches;

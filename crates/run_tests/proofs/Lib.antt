@@ -1,3 +1,1 @@
-mod TestRuns
-mod TotalRuns
 mod WordValues

@@ -1,12 +1,11 @@
-//! Words beside tables with the same entries, and texts of words that are refused.
+//! Words beside tables with the same entries.
 
-ghost use Rattle.std.specs.Prelude.{◌≡◌, ◌<◌, ◌∷◌, [], IfOk, length};
+ghost use Rattle.std.specs.Prelude.{◌≡◌, ◌∷◌, [], IfOk};
 ghost use Rattle.tsl_terms.specs.Name.{is_name};
 ghost use Rattle.tsl_meaning.specs.Interpretation.{IsInterpretation, IsEqualityOf};
 
 use crate::tables::{few_names, is_signal, tables_read};
 use interp_core::{Algebra, Judge};
-use sequence::NoMemory;
 use std::alloc::Global;
 use std::process::Abort;
 use std::test::Fail;
@@ -239,155 +238,6 @@ fn words_have_the_values_of_tables_with_their_entries(rt: HostRuntime) -> Result
         for &(kind, word, arity) in SYMBOLS {
             assert!(rt; agrees(&rt, rt.alloc(), kind, word, arity, bits, domain)?);
         }
-    }
-    Ok(())
-}
-
-/// Operations and tests on words of 16 bits: how many arguments they take, two words, and the value.
-const WIDE: &[(NameKind, &str, u32, u32, u32, u32)] = &[
-    (NameKind::Function, "add", 2, 65_535, 2, 1),
-    (NameKind::Function, "sub", 2, 0, 1, 65_535),
-    (NameKind::Function, "mul", 2, 65_535, 65_535, 1),
-    (NameKind::Function, "xor", 2, 65_535, 1, 65_534),
-    (NameKind::Function, "not", 1, 0, 0, 65_535),
-    (NameKind::Function, "inc", 1, 65_535, 0, 0),
-    (NameKind::Function, "dec", 1, 0, 0, 65_535),
-    (NameKind::Function, "shl", 1, 32_768, 0, 0),
-    (NameKind::Function, "shr", 1, 65_535, 0, 32_767),
-    (NameKind::Function, "const 65535", 0, 0, 0, 65_535),
-    (NameKind::Predicate, "less", 2, 65_534, 65_535, 1),
-    (NameKind::Predicate, "atmost", 2, 65_535, 65_534, 0),
-];
-
-/// The value of an operation or a test on words of 16 bits.
-fn value_on_16_bits(
-    rt: &impl Abort,
-    alloc: Global,
-    kind: NameKind,
-    word: &str,
-    arity: u32,
-    arguments: &[u32],
-) -> Result<u32, Fail> {
-    let names = few_names(alloc, b"f", kind, arity)?;
-    let entry = entry_word(kind);
-    let text = format!(in alloc; "tslwords 1 bits 16 cell x 0 cell y 1 {entry} f {word}")?;
-    let words = words_read(rt, alloc, &names, text.as_bytes()).expect(rt, "the words are read");
-    word_value(alloc, &names, &words, arguments)
-}
-
-#[test]
-fn words_may_have_sixteen_bits(rt: HostRuntime) -> Result<(), Fail> {
-    for &(kind, word, arity, x, y, expected) in WIDE {
-        let arguments = [x, y];
-        let arguments = &arguments[..(arity as usize).min(2)];
-        let value = value_on_16_bits(&rt, rt.alloc(), kind, word, arity, arguments)?;
-        assert_eq!(rt; value, expected);
-    }
-    Ok(())
-}
-
-#[test]
-fn equality_of_words_needs_no_entry(rt: HostRuntime) -> Result<(), Fail> {
-    let names = few_names(rt.alloc(), b"eq", NameKind::Predicate, 2)?;
-    let read = words_read(
-        &rt,
-        rt.alloc(),
-        &names,
-        b"tslwords 1 bits 2 cell y 1 cell x 3",
-    );
-    let words = read.expect(&rt, "the words are read");
-    let equality = words.equality().expect(&rt, "there is equality");
-    for a in 0..4 {
-        for b in 0..4 {
-            assert_eq!(rt; words.test(equality, &[a, b]), a == b);
-        }
-    }
-    Ok(())
-}
-
-/// The values of the cells x and y at first.
-fn first_values(alloc: Global, names: &Names, words: &Words) -> Result<(u32, u32), NoMemory>
-    requires cells { words.now.cells ≡ 1 ∷ 0 ∷ [] }
-    requires meaning { IsInterpretation names.now (1 ∷ 0 ∷ []) words.now.interpretation }
-{
-    Ok((words.initial(alloc, 0)?, words.initial(alloc, 1)?))
-}
-
-#[test]
-fn words_have_values_at_first_and_copies(rt: HostRuntime) -> Result<(), Fail> {
-    let names = few_names(rt.alloc(), b"f", NameKind::Function, 0)?;
-    let text = b"tslwords 1 bits 16 func f const 9 cell y 65535 cell x 007";
-    let words = words_read(&rt, rt.alloc(), &names, text).expect(&rt, "the words are read");
-    assert_eq!(rt; words.domain(), 65_536);
-    let (x, y) = first_values(rt.alloc(), &names, &words)?;
-    assert_eq!(rt; x, 7);
-    assert_eq!(rt; y, 65_535);
-    let copy = words.copy(rt.alloc(), &y)?;
-    assert!(rt; words.same(&copy, &y));
-    assert!(rt; !words.same(&copy, &x));
-    Ok(())
-}
-
-/// Texts of words for the names x, y and f of two arguments, with the cells y and x, and `read` or the refusal.
-const TEXTS: &[(&[u8], &str)] = &[
-    (
-        b"tslwords 1 bits 16 func f add cell x 0 cell y 65535",
-        "read",
-    ),
-    (
-        b"tslwords\n1 bits 001 // one\ncell y 1 func f xor cell x 0",
-        "read",
-    ),
-    (b"tslwords 1 bits 8 func f add $", "Byte(29)"),
-    (b"tslwords 1 bits 8 /* func f add", "OpenComment(18)"),
-    (b"tslwords 1 bits 0 cell x 0", "Form(16)"),
-    (b"tslwords 1 bits 8 func f plus", "Form(25)"),
-    (b"tslwords 1 bits 8 func f less", "Form(25)"),
-    (b"tslwords 1 bits 8 pred f add", "Form(25)"),
-    (b"tslwords 1 bits 8 func f const", "Form(30)"),
-    (b"tslwords 1 bits 17 func g add", "Width"),
-    (
-        b"tslwords 1 bits 8 func f add func f add func g inc",
-        "Unknown(45, 46)",
-    ),
-    (b"tslwords 1 bits 8 pred f less", "Unknown(23, 24)"),
-    (
-        b"tslwords 1 bits 8 cell x 0 func f add cell x 0",
-        "Twice(43, 44)",
-    ),
-    (b"tslwords 1 bits 8 cell x 256 cell y 0", "Missing(2)"),
-    (b"tslwords 1 bits 8 func f inc cell x 256", "Missing(1)"),
-    (
-        b"tslwords 1 bits 8 func f inc cell x 256 cell y 0",
-        "Arity(2)",
-    ),
-    (
-        b"tslwords 1 bits 8 func f const 256 cell x 0 cell y 0",
-        "Arity(2)",
-    ),
-    (
-        b"tslwords 1 bits 8 func f add cell x 256 cell y 257",
-        "Range(1, 257)",
-    ),
-    (
-        b"tslwords 1 bits 8 func f add cell x 256 cell y 255",
-        "Range(0, 256)",
-    ),
-];
-
-/// `read`, or why a text spells no words.
-fn words_told(rt: &impl Abort, alloc: Global, text: &[u8]) -> Result<String, Fail> {
-    let names = few_names(alloc, b"f", NameKind::Function, 2)?;
-    match words_read(rt, alloc, &names, text) {
-        Ok(_) => Ok(String::from_str(alloc, "read")?),
-        Err(error) => Ok(format!(in alloc; "{error:?}")?),
-    }
-}
-
-#[test]
-fn words_are_read_or_refused(rt: HostRuntime) -> Result<(), Fail> {
-    for &(text, expected) in TEXTS {
-        assert_eq!(rt; words_told(&rt, rt.alloc(), text)?.as_str(), expected);
     }
     Ok(())
 }

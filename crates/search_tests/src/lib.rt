@@ -1,19 +1,7 @@
-//! Tests of programs of controllers, of what is said of programs, and of the searches for machines and windows.
+//! Tests of the search for windows, and of the one with the full bound.
 #![tactic(auto)]
 
 #[cfg(test)]
-mod answers;
-#[cfg(test)]
-mod duals;
-#[cfg(test)]
-mod finding;
-#[cfg(test)]
-mod flows;
-#[cfg(test)]
-mod printed;
-#[cfg(test)]
-mod programs;
-#[cfg(test)]
-mod questions;
+mod full;
 #[cfg(test)]
 mod windows;

@@ -48,12 +48,6 @@ const INPUTS: &[u8] = b"always guarantee { [y <- x] || [y <- y]; } guarantee { F
 const EQUAL: &[u8] =
     b"always guarantee { [y <- y] || [y <- x]; } guarantee { eq x y -> p x -> p y; eq x y -> eq (f x) (f y); }";
 
-/// Ten cells with two choices each, and one test.
-const TEN: &[u8] =
-    b"always guarantee { [a <- x] || [a <- y]; [b <- x] || [b <- y]; [c <- x] || [c <- y]; [d <- x] || [d <- y];
-    [e <- x] || [e <- y]; [f <- x] || [f <- y]; [g <- x] || [g <- y]; [h <- x] || [h <- y]; [i <- x] || [i <- y];
-    [j <- x] || [j <- y]; } guarantee { F p x; }";
-
 /// A specification, what is true in each state of an environment, the state that it goes to from each state under
 /// each vector, a depth, and the window that is found: the bits of its probes with their steps, and of its updates and
 /// equalities with their offsets.
@@ -288,25 +282,6 @@ fn windows_are_found(rt: HostRuntime) -> Result<(), Fail> {
     for &(text, truths, next, depth, expected) in SEARCHES {
         assert_eq!(rt;
             search_said(&rt, rt.alloc(), text, truths, next, depth)?.as_str(),
-            expected
-        );
-    }
-    Ok(())
-}
-
-/// A depth, and what is found to it where there are one test and 1,024 vectors.
-const DEPTHS: &[(u32, &str)] = &[(0, "none"), (1, "none"), (3, "branches")];
-
-#[test]
-fn branches_are_counted_first(rt: HostRuntime) -> Result<(), Fail> {
-    let alloc = rt.alloc();
-    let mut next = Vec::new(alloc);
-    for _ in 0..1024 {
-        next.push(0)?;
-    }
-    for &(depth, expected) in DEPTHS {
-        assert_eq!(rt;
-            search_said(&rt, alloc, TEN, &[1], &next, depth)?.as_str(),
             expected
         );
     }

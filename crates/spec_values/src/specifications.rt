@@ -1,30 +1,14 @@
-//! Specifications, by hand and from a text.
+//! Specifications from a text.
 
-ghost use Rattle.std.specs.Prelude.{◌≡◌, IsTrue, IfOk};
+ghost use Rattle.std.specs.Prelude.{IsTrue, IfOk};
 ghost use Rattle.std.specs.List.{list_all};
-ghost use Rattle.tsl_terms.specs.FormulaTree.{formula_trees};
 ghost use Rattle.tsl_terms.specs.SpecView.{spec_tree};
-ghost use Rattle.tsl_terms.specs.WellFormed.{formulas_fit, name_fits, SpecFits};
+ghost use Rattle.tsl_terms.specs.WellFormed.{name_fits, SpecFits};
 
 use std::alloc::Global;
 use std::test::Fail;
 use tsl_reader::read_spec;
-use tsl_terms::{FormulaList, Names, Spec};
-
-/// What is guaranteed always, and nothing else.
-pub fn guaranteed_always(names: Names, formulas: FormulaList) -> Spec
-    requires { IsTrue (formulas_fit names (formula_trees formulas)) }
-    ensures names { result.names ≡ names }
-    ensures formulas { result.guarantee_always ≡ formulas }
-{
-    Spec {
-        names,
-        assume_first: FormulaList::Empty,
-        assume_always: FormulaList::Empty,
-        guarantee_first: FormulaList::Empty,
-        guarantee_always: formulas,
-    }
-}
+use tsl_terms::Spec;
 
 /// The specification that a text spells.
 pub fn spec_of(alloc: Global, text: &[u8]) -> Result<Spec, Fail>

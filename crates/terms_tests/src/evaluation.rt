@@ -1,4 +1,4 @@
-//! Terms and tests over algebras, and free terms.
+//! Terms over algebras, and free terms.
 
 ghost use Rattle.std.specs.Prelude.{◌≡◌, ◌∷◌, [], IsTrue, IfOk, length};
 ghost use Rattle.std.specs.List.{AllByRecursion};
@@ -9,25 +9,11 @@ ghost use Rattle.tsl_terms.specs.FreeTree.{leaf_at};
 ghost use Rattle.interp_core.specs.FreeView.{free_tree};
 ghost use Rattle.interp_core.specs.internal.LeavesWithin.{leaves_within};
 
-use interp_core::{
-    Algebra, FreeList, FreeTerm, Leaves, TermAlgebra, Wheel, evaluate, image, test_term,
-};
+use interp_core::{Algebra, FreeTerm, Leaves, TermAlgebra, Wheel, evaluate, image};
 use sequence::{NoMemory, Sequence};
-use spec_values::on_one;
 use std::alloc::Global;
 use std::test::Fail;
-use tsl_terms::{Probe, Term, TermList};
-
-/// So many applications of function 1 to signal 3.
-fn nested(alloc: Global, depth: u32) -> Result<Term, NoMemory>
-    ensures { IfOk result (λ t. IsTrue (reads_only (3 ∷ 5 ∷ []) (term_tree t))) }
-{
-    let mut term = Term::Signal(3);
-    for _ in 0..depth {
-        term = on_one(alloc, 1, term)?;
-    }
-    Ok(term)
-}
+use tsl_terms::{Term, TermList};
 
 /// The signals 3 and 5.
 fn signals_in_order(alloc: Global, first: u32, second: u32) -> Result<TermList, NoMemory>
@@ -58,15 +44,6 @@ fn value_of(alloc: Global, term: &Term) -> Result<u32, NoMemory>
     evaluate(alloc, &wheel, &leaves, term)
 }
 
-/// The truth of a probe there.
-fn truth_of(alloc: Global, probe: &Probe) -> Result<bool, NoMemory>
-    requires { IsTrue (read_only (3 ∷ 5 ∷ []) (term_trees probe.now.arguments)) }
-{
-    let wheel = Wheel { size: 1000 };
-    let leaves = two_leaves(alloc)?;
-    test_term(alloc, &wheel, &leaves, probe)
-}
-
 #[test]
 fn arguments_are_evaluated_in_their_order(rt: HostRuntime) -> Result<(), Fail> {
     let alloc = rt.alloc();
@@ -74,30 +51,6 @@ fn arguments_are_evaluated_in_their_order(rt: HostRuntime) -> Result<(), Fail> {
     assert_eq!(rt; value_of(alloc, &term)?, 12);
     let turned = Term::Apply(7, signals_in_order(alloc, 5, 3)?);
     assert_eq!(rt; value_of(alloc, &turned)?, 14);
-    Ok(())
-}
-
-#[test]
-fn terms_may_be_200_levels_deep(rt: HostRuntime) -> Result<(), Fail> {
-    let alloc = rt.alloc();
-    let term = nested(alloc, 200)?;
-    assert_eq!(rt; value_of(alloc, &term)?, 201);
-    Ok(())
-}
-
-#[test]
-fn a_probe_holds_where_its_predicate_does(rt: HostRuntime) -> Result<(), Fail> {
-    let alloc = rt.alloc();
-    let holds = Probe {
-        predicate: 5,
-        arguments: signals_in_order(alloc, 3, 5)?,
-    };
-    assert!(rt; truth_of(alloc, &holds)?);
-    let fails = Probe {
-        predicate: 6,
-        arguments: signals_in_order(alloc, 3, 5)?,
-    };
-    assert!(rt; !truth_of(alloc, &fails)?);
     Ok(())
 }
 
@@ -158,38 +111,5 @@ fn both_sides_of_a_congruent_window_have_one_image(rt: HostRuntime) -> Result<()
             assert!(rt; image_over_two(alloc, before, now, &other)? != value);
         }
     }
-    Ok(())
-}
-
-#[test]
-fn free_terms_are_the_same_where_they_are_equal(rt: HostRuntime) -> Result<(), Fail> {
-    let alloc = rt.alloc();
-    let algebra = TermAlgebra::new(vec![in alloc; 5]?);
-    let left = on_leaf(alloc, 1, 0)?;
-    assert!(rt; algebra.same(&left, &algebra.copy(alloc, &left)?));
-    assert!(rt; !algebra.same(&left, &on_leaf(alloc, 1, 1)?));
-    assert!(rt; !algebra.same(&left, &on_leaf(alloc, 2, 0)?));
-    assert!(rt; algebra.same(&algebra.initial(alloc, 5)?, &FreeTerm::Leaf(5, 0)));
-    Ok(())
-}
-
-const MANY: u32 = 500_000;
-
-/// So many leaves in a list.
-fn many_leaves(alloc: Global) -> Result<FreeList, NoMemory> {
-    let mut leaves = Vec::new(alloc);
-    for step in 0..MANY {
-        leaves.push(FreeTerm::Leaf(3, step))?;
-    }
-    FreeList::from_vec(alloc, leaves)
-}
-
-#[test]
-fn lists_of_free_terms_may_be_long(rt: HostRuntime) -> Result<(), Fail> {
-    let alloc = rt.alloc();
-    let algebra = TermAlgebra::new(Vec::new(alloc));
-    let long = FreeTerm::Apply(1, many_leaves(alloc)?);
-    let copied = algebra.copy(alloc, &long)?;
-    assert!(rt; algebra.same(&long, &copied));
     Ok(())
 }

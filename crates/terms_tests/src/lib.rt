@@ -1,8 +1,6 @@
-//! Tests of terms and formulas, of their values, and of congruent windows.
+//! Tests of terms and formulas in long lists, and of the values of terms.
 #![tactic(auto)]
 
-#[cfg(test)]
-mod congruence;
 #[cfg(test)]
 mod evaluation;
 #[cfg(test)]

@@ -13,20 +13,6 @@ const LOOPS: &[(&[u8], &[u8])] = &[
     ),
 ];
 
-/// Texts over three propositions, and their first wrong line.
-const FAULTS: &[(&[u8], &str)] = &[
-    (b"", "Form(1)"),
-    (b"back 0\n", "Form(1)"),
-    (b"letter 3\nback 0\n", "Form(1)"),
-    (b"letter 1 1\nback 0\n", "Form(1)"),
-    (b"letter  1\nback 0\n", "Form(1)"),
-    (b"letter 01\nback 0\n", "Form(1)"),
-    (b"letter 0\nback 1\n", "Form(2)"),
-    (b"letter 0\nback 0 \n", "Form(2)"),
-    (b"letter 0\n", "Form(2)"),
-    (b"letter 0\nback 0\n\n", "Form(3)"),
-];
-
 #[test]
 fn a_loop_is_read_and_written(rt: HostRuntime) -> Result<(), Fail> {
     for &(text, expected) in LOOPS {
@@ -37,19 +23,6 @@ fn a_loop_is_read_and_written(rt: HostRuntime) -> Result<(), Fail> {
             Err(_) => {}
         }
         assert_eq!(rt; out.as_slice(), expected);
-    }
-    Ok(())
-}
-
-#[test]
-fn the_first_wrong_line_of_a_loop_is_told(rt: HostRuntime) -> Result<(), Fail> {
-    for &(text, expected) in FAULTS {
-        assert!(rt; text.len() < 100);
-        let answer = match read_letters(rt.alloc(), text, 3) {
-            Ok(_) => format!(in rt.alloc(); "read")?,
-            Err(error) => format!(in rt.alloc(); "{error:?}")?,
-        };
-        assert_eq!(rt; answer.as_str(), expected);
     }
     Ok(())
 }

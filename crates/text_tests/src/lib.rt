@@ -1,18 +1,9 @@
-//! Tests of texts: tokens, places, lines and numbers, letters, circuits, how terms are written, and bytes over
-//! memory; and of planes of bits.
+//! Tests of planes of bits at each length, and of the texts of circuits and of loops of letters.
 #![tactic(auto)]
 
 #[cfg(test)]
 mod circuit_lines;
 #[cfg(test)]
-mod division;
-#[cfg(test)]
 mod letters;
 #[cfg(test)]
-mod memory;
-#[cfg(test)]
-mod pieces;
-#[cfg(test)]
 mod planes;
-#[cfg(test)]
-mod written;

@@ -252,20 +252,3 @@ fn sixty_four_propositions_are_read_and_sixty_five_are_too_many(
     assert_repeated(&rt, rt.alloc(), &["accepts"], PROPOSITIONS)?;
     Ok(())
 }
-
-/// Loops of grants, and whether one of two requests is granted no more from some time on.
-const GRANTS: &[Case] = &[
-    (b"letters\nletter 0\nletter 1\nback 0\n", b"rejected\n"),
-    (b"letters\nletter 0 1\nback 0\n", b"rejected\n"),
-    (b"letters\nletter 0\nletter 1\nback 1\n", b"accepted\n"),
-    (b"letters\nletter 0\nback 0\n", b"accepted\n"),
-    (b"letters\nletter\nback 0\n", b"accepted\n"),
-];
-
-#[test]
-fn an_automaton_that_is_written_is_judged(rt: HostRuntime) -> Result<(), Fail> {
-    let alloc = rt.alloc();
-    let ran = run(alloc, &["automaton"], ARBITER, PLAIN, PLAIN, PLAIN)?;
-    assert_each(&rt, alloc, &["accepts"], &ran.out, GRANTS)?;
-    Ok(())
-}

@@ -1,6 +1,7 @@
-//! Runs of `gen`.
+//! Generated specifications, and runs of `gen`.
 
 use crate::devices::{Device, PLAIN, assert_says, run};
+use generator::gen_text;
 use std::test::Fail;
 use tsl_tool::Status;
 
@@ -33,5 +34,16 @@ fn three_requests_have_one_too_at_each_run(rt: HostRuntime) -> Result<(), Fail> 
         let ran = run(alloc, &words, b"", PLAIN, PLAIN, PLAIN)?;
         assert_says(&rt, &ran, Status::Done, THREE);
     }
+    Ok(())
+}
+
+/// The specification of two requests.
+const REQUESTS: &[u8] =
+    b"always guarantee {\nreq r0 -> F [g <- pick r0];\nreq r1 -> F [g <- pick r1];\n}\n";
+
+#[test]
+fn two_requests_are_answered(rt: HostRuntime) -> Result<(), Fail> {
+    let text = gen_text(rt.alloc(), 2)?;
+    assert!(rt; text.as_slice() == REQUESTS);
     Ok(())
 }

@@ -1,4 +1,4 @@
-//! Tests of what `tsl` says, and of the words that it takes.
+//! Tests of what `tsl` says.
 #![tactic(auto)]
 
 #[cfg(test)]
@@ -19,5 +19,3 @@ mod run_tests;
 mod search_tests;
 #[cfg(test)]
 mod top_tests;
-#[cfg(test)]
-mod word_tests;

@@ -349,47 +349,39 @@ fn a_run_of_too_many_configurations_is_large(rt: HostRuntime) -> Result<(), Fail
     Ok(())
 }
 
-/// The largest program: state 0 begins at the last node, from which tests lead down to node 0, and
-/// each other state begins at the node of its number. The nodes of the states go from one to the
-/// next.
-fn largest_program(alloc: Global) -> Result<Vec<u8>, AllocError> {
-    let mut text = Vec::from_slice(alloc, b"tslprogram 1\ncell c\n")?;
-    for node in 0..64u32 {
-        let next = if node == 63 { 0 } else { node + 1 };
-        let line = format!(in alloc; "node {} set [c <- c] go {}\n", node, next)?;
-        text.extend_from_slice(line.as_bytes())?;
+/// A cell goes through the values of a domain of 130, and something holds of it at some time.
+const WHEEL: &[u8] =
+    b"always guarantee { [u <- f u]; F z u; }\ntslprogram 1\ncell u\nnode 0 set [u <- f u] go 0\nstate 0 at 0\nend\ntsltables 1\ndomain 130\nfunc f";
+
+/// The run of the cell, where what is looked for holds of this value alone.
+fn wheel(alloc: Global, looked_for: u32) -> Result<Vec<u8>, AllocError> {
+    let mut text = Vec::from_slice(alloc, WHEEL)?;
+    for value in 1..130u32 {
+        text.extend_from_slice(format!(in alloc; " {}", value)?.as_bytes())?;
     }
-    for node in 64..65_536u32 {
-        let before = if node == 64 { 0 } else { node - 1 };
-        let line = format!(in alloc; "node {} if p c then {} else 63\n", node, before)?;
-        text.extend_from_slice(line.as_bytes())?;
+    text.extend_from_slice(b" 0\npred z")?;
+    for value in 0..130u32 {
+        let entry = u32::from(value == looked_for);
+        text.extend_from_slice(format!(in alloc; " {}", entry)?.as_bytes())?;
     }
-    text.extend_from_slice(b"state 0 at 65535\n")?;
-    for state in 1..64u32 {
-        text.extend_from_slice(format!(in alloc; "state {} at {}\n", state, state)?.as_bytes())?;
-    }
-    text.extend_from_slice(b"end\n")?;
+    text.extend_from_slice(b"\ncell u 0\ntslinputs 1\nstem\ncycle row\n")?;
     Ok(text)
 }
 
-/// What is said of its run: a position for each state, and then the first one again.
-fn largest_run(alloc: Global) -> Result<Vec<u8>, AllocError> {
-    let mut text = Vec::new(alloc);
-    for state in 0..64u32 {
-        let line = format!(in alloc; "at {} place 0 state {} c 0 do [c <- c]\n", state, state)?;
-        text.extend_from_slice(line.as_bytes())?;
-    }
-    text.extend_from_slice(b"loop 0 64\n")?;
-    Ok(text)
-}
+/// The value that is looked for, of which one is none of the 130, how the run ends, and its last lines.
+const WHEELS: &[(u32, Status, &[u8])] = &[
+    (64, Status::Done, b"\nloop 0 130\nformula holds\n"),
+    (130, Status::No, b"\nloop 0 130\nformula fails\n"),
+];
 
 #[test]
-fn the_largest_program_runs_through_all_its_states(rt: HostRuntime) -> Result<(), Fail> {
+fn what_comes_at_one_of_130_positions_comes_again_and_again(rt: HostRuntime) -> Result<(), Fail> {
     let alloc = rt.alloc();
-    let mut text = largest_program(alloc)?;
-    text.extend_from_slice(b"tsltables 1\ndomain 2\npred p 1 0\ncell c 0\n")?;
-    text.extend_from_slice(b"tslinputs 1\nstem\ncycle row\n")?;
-    let ran = run(alloc, &["run"], &text, PLAIN, PLAIN, PLAIN)?;
-    assert_says(&rt, &ran, Status::Done, &largest_run(alloc)?);
+    for &(looked_for, status, says) in WHEELS {
+        let ran = run(alloc, &["run"], &wheel(alloc, looked_for)?, PLAIN, PLAIN, PLAIN)?;
+        assert_eq!(rt; ran.status, status);
+        assert_eq!(rt; ran.out.ends_with(says), true);
+        assert_eq!(rt; ran.err.is_empty(), true);
+    }
     Ok(())
 }

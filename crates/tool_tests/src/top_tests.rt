@@ -4,7 +4,6 @@ use crate::devices::{
     COPIED, COPY, Case, Repeated, assert_each, assert_repeated, assert_run, repeated,
 };
 use search_replies::whole_text;
-use std::alloc::{AllocError, Global};
 use std::test::Fail;
 use tsl_reader::read_spec;
 
@@ -335,32 +334,5 @@ fn arrows_and_until_are_written_with_brackets(rt: HostRuntime) -> Result<(), Fai
         whole_text(rt.alloc(), &spec)?.as_slice(),
         b"((a -> (b -> c)) && (a U (b || c)))".as_slice()
     );
-    Ok(())
-}
-
-/// A thousand updates over five hundred signals: each but the first takes the one before it, twice.
-fn chain(alloc: Global) -> Result<Vec<u8>, AllocError> {
-    let mut text = Vec::from_slice(alloc, b"always guarantee {")?;
-    for turn in 0..1000u32 {
-        let signal = turn % 500;
-        let update = format!(in alloc; " [s{} <- s{}];", signal, signal.saturating_sub(1))?;
-        text.extend_from_slice(update.as_bytes())?;
-    }
-    text.extend_from_slice(b" }")?;
-    Ok(text)
-}
-
-#[test]
-fn a_thousand_updates_have_too_many_bits(rt: HostRuntime) -> Result<(), Fail> {
-    let alloc = rt.alloc();
-    assert_run(&rt, alloc, &["synth"], &chain(alloc)?, b"large bits 64\n")?;
-    assert_run(&rt, alloc, &["prove"], &chain(alloc)?, b"large bits 64\n")?;
-    assert_run(
-        &rt,
-        alloc,
-        &["automaton"],
-        &chain(alloc)?,
-        b"large bits 64\n",
-    )?;
     Ok(())
 }

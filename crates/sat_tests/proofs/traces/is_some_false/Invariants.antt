@@ -1,7 +1,0 @@
-use Rattle.std.proofs.Common.{List, Contains, take}
-use Rattle.clause_core.specs.Literals.{Lit}
-use Rattle.clause_core.specs.Propagation.{IsFalse}
-use Rattle.sat_tests.proofs.traces.is_some_false.Given as goal
-
-abbrev pub invariant-loop-clause : goal.invariant-loop-clause
-invariant-loop-clause l = (clause : List Lit) → Contains (take l.clause-index l.clauses) clause → IsFalse l.trues clause → ⊥
