@@ -9,6 +9,7 @@ from .files import Stop, gather, shown, write
 from .formulas import Update, write_test, write_update
 from .given import options_of
 from .programs import HEAD, Branch, Leaf, Program, read_program, write_window
+from .simplify import below
 from .tokens import Unreadable
 
 HELP = """tslx draw [OPTION].. [FILE]..
@@ -139,23 +140,27 @@ def update_of_signal(leaf: Leaf, name: str) -> Update:
     return next(it for it in leaf.updates if it.signal.name == name)
 
 
-def of_output(program: Program, name: str, title: str) -> List[str]:
-    """The picture of a program with what one cell or output takes: states that it comes to and that differ in nothing else share a box."""
+def alike_for(program: Program, name: str) -> Tuple[List[int], List[int]]:
+    """What of a program one cell or output needs: for each node the one that stands for it, and for each state the first one that differs from
+    it in nothing else."""
     box = [0] * len(program.states)
     while True:
         stands = stand_for(program, lambda leaf: (update_of_signal(leaf, name), box[leaf.go]))
         first: Dict[Tuple[int, int], int] = {}
         now = [first.setdefault((box[state], stands[at]), state) for state, at in enumerate(program.states)]
         if now == box:
-            break
+            return stands, box
         box = now
-    reached, left = {box[0]: True}, [box[0]]
-    while left:
-        for number in program.reached(program.states[left.pop()]):
-            node = program.nodes[number]
-            if isinstance(node, Leaf) and box[node.go] not in reached:
-                reached[box[node.go]] = True
-                left.append(box[node.go])
+
+
+def of_output(program: Program, name: str, title: str) -> List[str]:
+    """The picture of a program with what one cell or output takes: states that it comes to and that differ in nothing else share a box."""
+    stands, box = alike_for(program, name)
+    made = dict(enumerate(program.nodes))
+    reached = [box[0]]
+    for state in reached:
+        goes = {box[node.go] for node in (made[it] for it in below(made, program.states[state])) if isinstance(node, Leaf)}
+        reached += sorted(goes - set(reached))
     titles = {state: title_of_box(box, state) for state in sorted(reached)}
     return Picture(program, stands, box, lambda leaf: quoted(write_update(update_of_signal(leaf, name))), titles).write(title, "", False)
 

@@ -8,6 +8,7 @@ from dataclasses import dataclass, field
 from typing import Dict, List, Tuple, Union
 
 from . import asking
+from .code import spelled
 from .files import Gathered, Stop, gather, shown, tell, write
 from .formulas import Formula, Signal, Update, atoms, signals_read, terms
 from .given import number_in, options_of, specification_in
@@ -214,13 +215,12 @@ def save(folder: str, name: str, text: str) -> None:
 
 def names_of(parts: List[Part]) -> List[str]:
     """A name for the files of each part, never two alike."""
-    found: List[str] = []
-    for part in parts:
-        name = part.signals[0].replace("'", "_prime") if part.signals else "inputs"
-        while name in found:
-            name += "_"
-        found.append(name)
-    return found
+    firsts = [part.signals[0] for part in parts if part.signals]
+    names = spelled(firsts, frozenset())
+    alone = "inputs"
+    while alone in names.values():
+        alone += "_"
+    return [names[part.signals[0]] if part.signals else alone for part in parts]
 
 
 def searched(name: str, text: str, most: int, jobs: int) -> Tuple[int, str]:
