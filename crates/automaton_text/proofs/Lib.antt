@@ -1,5 +1,6 @@
 pub mod BitLines
 pub mod BodyLines
+pub mod FirstLines
 pub mod Found
 pub mod HoaGroups
 pub mod HoaKept
@@ -11,4 +12,3 @@ pub mod LiteralLines
 pub mod Reading
 pub mod WrittenRead
 pub mod Writing
-mod FirstLines
