@@ -12,16 +12,17 @@ use Rattle.sequence.proofs.Places.{take_next}
 use Rattle.tsl_text.specs.Written.{text_of_lines}
 use Rattle.tsl_text.specs.Lines.{lines_from}
 use Rattle.line_formats.specs.Format.{Format, Value, fits}
-use Rattle.line_formats.specs.Machine.{read_from}
+use Rattle.line_formats.specs.Machine.{read_from, IsText}
 use Rattle.line_formats.proofs.FormatLaws.{and_then_some, line_written}
 use Rattle.line_formats.proofs.MachineLaws.{read_is_text, says_written, holds_after}
 use Rattle.cobuchi_automata.specs.Automata.{EdgeTree}
-use Rattle.automaton_text.specs.HoaText.{joined, label_text, mark_text, edge_text, states_text, state_text, bits_text, header_lines}
+use Rattle.automaton_text.specs.HoaText.{joined, label_text, mark_text, edge_text, states_text, state_text, bits_text, header_lines, hoa_lines}
 use Rattle.automaton_text.specs.HoaText.{number_bound, IsEdgeOf, IsHoa, IsHoaText, grouped}
 use Rattle.automaton_text.specs.HoaLines.{Part, PartValue, leaves, line_text, word_line, states_line, bits_line, edge_line, body_line}
 use Rattle.automaton_text.specs.HoaLines.{line_value, quoted_name, quoted_names, is_marked, LiteralTree, literals_in, rise, care_with, Head}
 use Rattle.automaton_text.specs.HoaLines.{says, counts, lists, header, State, fresh, when, head_step, edge_with}
 use Rattle.automaton_text.specs.HoaLines.{may_join, edge_step, body_step, step_at, step, whole}
+use Rattle.automaton_text.specs.FirstWrongLine.{said_of}
 use Rattle.automaton_text.proofs.BitLines.{law}
 use Rattle.automaton_text.proofs.LabelBits.{cube_within, literals_written, care_below}
 use Rattle.automaton_text.proofs.HoaLabels.{quoted_fit, label_written, states_print, state_print, bits_print, edge_print}
@@ -305,23 +306,43 @@ passed_all t held done = by (cases_lt t.passed 7) where
 
 -- ---- what is read is the text of an automaton
 
+-- lines that the steps take to the end are those of an automaton, and this is what they say
+pub of_automaton : (ls : List (List ℕ)) (t : State) → IsText step whole fresh ls t →
+    IsHoa t.names t.states t.edges × (t.edges ≡ grouped t.states t.edges) × (ls ≡ hoa_lines t.names t.states t.edges)
+    × (t ≡ said_of t.names t.states t.edges)
+of_automaton ls t is =
+    by (holds_after step whole fresh Holds kept ls t holds_first is.says)
+    (says_written step whole written Holds kept (λ s t l h e. (next s t l h e).1) ls fresh t holds_first is.says) is.done
+  where
+    by : Holds t → written t ≡ ls → t.ended ≡ true →
+        IsHoa t.names t.states t.edges × (t.edges ≡ grouped t.states t.edges) × (ls ≡ hoa_lines t.names t.states t.edges)
+        × (t ≡ said_of t.names t.states t.edges)
+    by held all done =
+        let passed : t.passed ≡ 7 = passed_all t held done in (
+          held.told,
+          held.in_order ∙ ap (λ n. grouped n t.edges) (held.done done),
+          sym all ∙ (λ i. written_of (take (passed i) (header_lines t.names t.states))
+              (lines_of (held.bits i) t.edges (held.done done i)) (done i)),
+          λ i. record {
+            passed = passed i;
+            states = t.states;
+            names = t.names;
+            bits = held.bits i;
+            begun = held.done done i;
+            edges = t.edges;
+            ended = done i;
+          },
+        )
+
 pub told : (text : List ℕ) (t : State) → read_from step whole fresh 1 (lines_from 1 text) ≡ Ok t →
     IsHoaText text t.bits t.states t.edges
 told text t h =
     let found = read_is_text step whole text fresh t h in
-    let held = holds_after step whole fresh Holds kept found.0 t holds_first found.2.says in
-    let all = says_written step whole written Holds kept (λ s t l h e. (next s t l h e).1) found.0 fresh t holds_first found.2.says in
-    by found.0 held all found.1 found.2.done
-  where
-    by : (ls : List (List ℕ)) → Holds t → written t ≡ ls → text ≡ text_of_lines ls → t.ended ≡ true → IsHoaText text t.bits t.states t.edges
-    by ls held all split done =
-        let passed : t.passed ≡ 7 = passed_all t held done in
-        record {
-          names = t.names;
-          named = sym held.bits;
-          is_hoa = held.told;
-          in_order = held.in_order ∙ ap (λ n. grouped n t.edges) (held.done done);
-          written = split ∙ ap text_of_lines (sym all)
-              ∙ (λ i. text_of_lines (written_of (take (passed i) (header_lines t.names t.states))
-              (lines_of (held.bits i) t.edges (held.done done i)) (done i)));
-        }
+    let of = of_automaton found.0 t found.2 in
+    record {
+      names = t.names;
+      named = sym (ap (λ (s : State). s.bits) of.3);
+      is_hoa = of.0;
+      in_order = of.1;
+      written = found.1 ∙ ap text_of_lines of.2;
+    }

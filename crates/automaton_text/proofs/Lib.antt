@@ -11,3 +11,4 @@ pub mod LiteralLines
 pub mod Reading
 pub mod WrittenRead
 pub mod Writing
+mod FirstLines

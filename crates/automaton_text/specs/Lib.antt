@@ -3,4 +3,5 @@ pub mod HoaText
 pub mod HoaLines
 pub mod HoaView
 pub mod HoaRefusals
+pub mod FirstWrongLine
 pub mod internal

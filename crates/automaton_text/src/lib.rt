@@ -16,9 +16,13 @@ mod laws;
 mod lines;
 mod literals;
 mod reader;
+mod text_laws;
 mod writer;
 
 pub use hoa_error::HoaError;
 pub use laws::{texts_tell_one_automaton, written_automata_are_read};
 pub use reader::{Hoa, read_automaton, read_hoa};
+pub use text_laws::{
+    no_automaton_goes_on_with_a_first_wrong_line, steps_take_the_texts_of_automata,
+};
 pub use writer::write_automaton;

@@ -9,7 +9,6 @@ use Rattle.sequence.proofs.Each.{each_at}
 use Rattle.tsl_text.specs.Names.{is_usable}
 use Rattle.tsl_terms.specs.Name.{Name, question}
 use Rattle.tsl_terms.specs.Clashes.{alike_in_kind, same_arity, HasNoClash}
-use Rattle.tsl_terms.specs.internal.FirstUse.{name_with}
 use Rattle.tsl_terms.proofs.KnownNames.{Known, known_of}
 use Rattle.tsl_terms.proofs.FirstUses.{first_of, named_first, first_some, FirstAt, first_at, clash_of}
 use Rattle.spec_syntax.specs.Syntax.{SectionSyntax}

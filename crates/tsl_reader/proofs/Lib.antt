@@ -32,3 +32,5 @@ pub mod UngroupedFormulas
 pub mod LevelsOfSizes
 pub mod ManyNodesAreTold
 pub mod FewNames
+pub mod WrittenClashes
+pub mod WithoutEquals

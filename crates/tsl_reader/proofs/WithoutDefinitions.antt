@@ -1,5 +1,5 @@
 -- A text without a definition spells what its sections say, with the names as they stand in them.
-use Rattle.std.proofs.Common.{◌≡◌, ℕ, suc, Bool, false, not, List, [], ◌∷◌, ◌++◌, map, refl, ap, sym, ◌∙◌, subst}
+use Rattle.std.proofs.Common.{◌≡◌, ℕ, suc, Bool, true, false, not, List, [], ◌∷◌, ◌++◌, map, refl, ap, sym, ◌∙◌, subst}
 use Rattle.std.specs.Prelude.{Option, Some, None, flat_map, position, slice_get, option_map, cond, ◌&&◌}
 use Rattle.std.proofs.Math.Bool.{and-false}
 use Rattle.std.specs.List.{AllByRecursion}
@@ -13,7 +13,7 @@ use Rattle.tsl_text.specs.Division.{AreTokens}
 use Rattle.tsl_terms.specs.declared.names.NameKind.TheVariants.{Signal, Predicate, Function}
 use Rattle.tsl_terms.specs.Name.{Name, same_kind}
 use Rattle.tsl_terms.specs.Clashes.{first_uses, alike_in_kind, same_arity, HasNoClash}
-use Rattle.tsl_terms.proofs.FirstUses.{first_some, named_first}
+use Rattle.tsl_terms.proofs.FirstUses.{first_of, first_some, named_first}
 use Rattle.tsl_terms.specs.SpecTree.{SpecTree}
 use Rattle.spec_syntax.specs.Syntax.{Terminal, free, word, mark, TermSyntax, alone, applied, grouped_term, TermsSyntax, no_terms, more_terms}
 use Rattle.spec_syntax.specs.Syntax.{FormulaSyntax, truth, falsehood, bare, tested, updated, grouped, under, between}
@@ -50,7 +50,7 @@ use Rattle.tsl_reader.proofs.UsesStand.{count_same}
 abbrev pub as_text : List SectionSyntax → List Declaration
 as_text ss = map the_section ss
 
-none_defined : (ss : List SectionSyntax) → definitions_in (as_text ss) ≡ []
+pub none_defined : (ss : List SectionSyntax) → definitions_in (as_text ss) ≡ []
 none_defined [] = refl
 none_defined (s ∷ ss) = none_defined ss
 
@@ -159,6 +159,26 @@ pub names_plain : (ss : List SectionSyntax) → ArePlain (names_in (as_text ss))
 names_plain ss =
     subst (λ heads. ArePlain (occurrences (first_uses heads) (as_text ss)) (written_uses ss)) (sym (no_heads ss)) (occurrences_plain ss)
 
+-- a signal has no arguments
+abbrev pub IsBare : Occurrence → Type 0
+IsBare o = same_kind o.kind Signal ≡ true → o.arity ≡ 0
+
+occurrences_bare : (ss : List SectionSyntax) → AllByRecursion IsBare (occurrences [] (as_text ss))
+occurrences_bare [] = tt
+occurrences_bare (r ∷ ss) =
+    each_joined IsBare (section_occurrences [] r) (occurrences [] (as_text ss))
+    (each_flat_map IsBare (formula_occurrences s 0) r.formulas
+    (each_from_places _ r.formulas (λ i f at. each_name s IsBare (record {
+      signal = λ l x h. refl;
+      function = λ l n g h. absurd (cc h);
+      atom = λ l x u h. refl;
+      test = λ l n p names u h. absurd (cc h);
+    }) 0 f)))
+    (occurrences_bare ss)
+
+pub names_bare : (ss : List SectionSyntax) → AllByRecursion IsBare (names_in (as_text ss))
+names_bare ss = subst (λ heads. AllByRecursion IsBare (occurrences (first_uses heads) (as_text ss))) (sym (no_heads ss)) (occurrences_bare ss)
+
 -- ---- no name is wrong
 
 plain_names_are : (os : List Occurrence) → AllByRecursion (λ (o : Occurrence). o.role ≡ Plain) os → plain_names os ≡ map name_of os
@@ -173,8 +193,21 @@ module _ (os : List Occurrence) (us : List Name) (plain : ArePlain os us) where
   names_are : plain_names os ≡ us
   names_are = plain_names_are os plain.1 ∙ plain.0
 
-  plain_at : (i : ℕ) (o : Occurrence) → slice_get os i ≡ Some o → o.role ≡ Plain
+  pub plain_at : (i : ℕ) (o : Occurrence) → slice_get os i ≡ Some o → o.role ≡ Plain
   plain_at i o there = each_at (λ (p : Occurrence). p.role ≡ Plain) os i o plain.1 there
+
+  -- the first use of a name, and whether an occurrence is not like it
+  pub unlike_there : (alike : Name → Name → Bool) → (i : ℕ) (o : Occurrence) → slice_get os i ≡ Some o →
+      (f : Name) × (first_of us o.text ≡ Some f) × (is_unlike_first alike os o ≡ not (alike f (name_of o)))
+  unlike_there alike i o there =
+      let here : slice_get us i ≡ Some (name_of o) =
+      ap (λ ns. slice_get ns i) (sym plain.0) ∙ slice_get-map name_of os i ∙ ap (option_map name_of) there in
+      let first = first_some us i (name_of o) here in (
+        first.0,
+        first.1,
+        sym (unlike_is alike (first_uses us) os o (ap first_uses (sym names_are)))
+            ∙ ap (λ found. option_map_or (λ n. not (alike n (name_of o))) found false) (named_first us o.text ∙ first.1),
+      )
 
   like_the_first : (alike : Name → Name → Bool) → HasNoClash alike us → (i : ℕ) (o : Occurrence) → slice_get os i ≡ Some o →
       is_unlike_first alike os o ≡ false
@@ -186,7 +219,7 @@ module _ (os : List Occurrence) (us : List Name) (plain : ArePlain os us) where
       ∙ ap (λ found. option_map_or (λ n. not (alike n (name_of o))) found false) (named_first us o.text ∙ first.1)
       ∙ ap not (like_first alike us none i (name_of o) first.0 here first.1)
 
-  none_redefined : position (λ (o : Occurrence). is_redefined o.role) os ≡ None
+  pub none_redefined : position (λ (o : Occurrence). is_redefined o.role) os ≡ None
   none_redefined = no_place (λ (o : Occurrence). is_redefined o.role) os (λ i o there. ap is_redefined (plain_at i o there))
 
   no_kind_fault : HasNoClash alike_in_kind us → position (has_kind_fault os) os ≡ None
@@ -200,13 +233,16 @@ module _ (os : List Occurrence) (us : List Name) (plain : ArePlain os us) where
       (λ i o there. ap (λ r. arity_fault_as r o (is_unlike_name same_arity heads o) (is_unlike_first same_arity os o)) (plain_at i o there)
       ∙ ap (λ b. not (same_kind o.kind Signal) && b) (like_the_first same_arity none i o there) ∙ and-false (not (same_kind o.kind Signal)))
 
+pub no_cycle : (ss : List SectionSyntax) → NoneOnCycle (definitions_in (as_text ss))
+no_cycle ss = subst NoneOnCycle (sym (none_defined ss)) (λ i d there cycle. none-some d there)
+
 pub named_well : (ss : List SectionSyntax) → HasNoClash alike_in_kind (written_uses ss) → HasNoClash same_arity (written_uses ss) →
     AreNamedWell (as_text ss)
 named_well ss kinds arities =
     let plain = names_plain ss in
     record {
       once = none_redefined (names_in (as_text ss)) (written_uses ss) plain;
-      acyclic = subst NoneOnCycle (sym (none_defined ss)) (λ i d there cycle. none-some d there);
+      acyclic = no_cycle ss;
       kinds = no_kind_fault (names_in (as_text ss)) (written_uses ss) plain kinds;
       arities = no_arity_fault (names_in (as_text ss)) (written_uses ss) plain (heads_of (as_text ss)) arities;
     }

@@ -4,3 +4,4 @@ pub mod ReadText
 pub mod Expanding
 pub mod UseView
 pub mod Numbering
+pub mod WrittenClashes

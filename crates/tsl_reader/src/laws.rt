@@ -1,11 +1,12 @@
 //! Laws of the definitions that the contracts cite.
 
-ghost use Rattle.std.specs.Prelude.{◌≡◌, ◌≤◌, ℕ, suc, List, length, map};
+ghost use Rattle.std.specs.Prelude.{◌≡◌, ◌↔◌, ◌≤◌, ℕ, suc, List, length, map};
 ghost use Rattle.tsl_text.specs.declared.Token.{Token};
 ghost use Rattle.tsl_text.specs.Lexeme.{token_text};
 ghost use Rattle.tsl_terms.specs.SpecTree.{SpecTree};
 ghost use Rattle.tsl_terms.specs.WellFormed.{SpecFits};
 ghost use Rattle.tsl_reader.specs.declared.SpecError.{SpecError};
+ghost use Rattle.tsl_reader.specs.declared.SpecError.TheVariants.{Kind, Arity, Defined, Cycle, DeepUse};
 ghost use Rattle.spec_syntax.specs.Syntax.{Terminal, SectionSyntax, Declaration, the_section};
 ghost use Rattle.spec_syntax.specs.Grammar.{AreSections};
 ghost use Rattle.spec_syntax.specs.Texts.{terminals};
@@ -20,6 +21,8 @@ ghost use Rattle.tsl_reader.specs.Naming.{written_uses};
 ghost use Rattle.tsl_reader.specs.Spells.{Spells, Derives, deepest_level};
 ghost use Rattle.tsl_reader.specs.Spells.{name_tokens, HasCause, IsOfText};
 ghost use Rattle.tsl_reader.specs.Spells.{SpellsNoSpec};
+ghost use Rattle.tsl_reader.specs.WrittenClashes.{IsFirstClashAt, HasNoEquals, AreSectionsAlone, HasKindClash};
+ghost use Rattle.tsl_reader.specs.WrittenClashes.{HasArityClash};
 
 /// A text spells at most one specification.
 pub fn one_specification()
@@ -62,6 +65,51 @@ pub fn texts_without_definitions_are_their_sections()
         → Expands (as_written (named_in (definitions_in (map the_section ss)))) xs xs }
     ensures only { (ss : List SectionSyntax) (xs ys : List Terminal)
         → Expands (as_written (named_in (definitions_in (map the_section ss)))) xs ys → xs ≡ ys }
+{}
+
+/// Of a text without a definition, `Kind` tells the first written use of a name that is of another kind than
+/// the first use of its name; `Arity`, where there is none, the first with another number of arguments. No
+/// name is told as defined before, no definition as one that reaches itself, and no use as too deep.
+pub fn clashes_are_those_of_written_uses()
+    ensures kind { (text : List ℕ) (tokens : List Token) (ss : List SectionSyntax) (start end : ℕ)
+        → AreTokens text tokens → AreSections deepest_level (terminals text tokens) ss
+        → (HasCause text (Kind start end) ↔ IsFirstClashAt alike_in_kind text tokens ss start end) }
+    ensures arity { (text : List ℕ) (tokens : List Token) (ss : List SectionSyntax) (start end : ℕ)
+        → AreTokens text tokens → AreSections deepest_level (terminals text tokens) ss
+        → (HasCause text (Arity start end) ↔ (HasNoClash alike_in_kind (written_uses ss)
+        × IsFirstClashAt same_arity text tokens ss start end)) }
+    ensures defined { (text : List ℕ) (tokens : List Token) (ss : List SectionSyntax) (start end : ℕ)
+        → AreTokens text tokens → AreSections deepest_level (terminals text tokens) ss
+        → HasCause text (Defined start end) → ⊥ }
+    ensures cycle { (text : List ℕ) (tokens : List Token) (ss : List SectionSyntax) (start end : ℕ)
+        → AreTokens text tokens → AreSections deepest_level (terminals text tokens) ss
+        → HasCause text (Cycle start end) → ⊥ }
+    ensures deep_use { (text : List ℕ) (tokens : List Token) (ss : List SectionSyntax) (start end : ℕ)
+        → AreTokens text tokens → AreSections deepest_level (terminals text tokens) ss
+        → HasCause text (DeepUse start end) → ⊥ }
+{}
+
+/// A text without the token `=` has no definition: what it derives from is sections alone, and these derive
+/// from all its terminals.
+pub fn texts_without_equals_are_their_sections()
+    ensures { (text : List ℕ) (tokens : List Token) (own : List Terminal) (ds : List Declaration)
+        → HasNoEquals tokens → Derives text tokens own ds
+        → AreSectionsAlone deepest_level (terminals text tokens) own ds }
+{}
+
+/// Of a text without the token `=`, `Kind` and `Arity` tell the first clash of the written uses, and of
+/// definitions nothing is told.
+pub fn texts_without_equals_are_refused_by_their_uses()
+    ensures kind { (text : List ℕ) (tokens : List Token) (start end : ℕ) → AreTokens text tokens
+        → HasNoEquals tokens → (HasCause text (Kind start end) ↔ HasKindClash text tokens start end) }
+    ensures arity { (text : List ℕ) (tokens : List Token) (start end : ℕ) → AreTokens text tokens
+        → HasNoEquals tokens → (HasCause text (Arity start end) ↔ HasArityClash text tokens start end) }
+    ensures defined { (text : List ℕ) (tokens : List Token) (start end : ℕ) → AreTokens text tokens
+        → HasNoEquals tokens → HasCause text (Defined start end) → ⊥ }
+    ensures cycle { (text : List ℕ) (tokens : List Token) (start end : ℕ) → AreTokens text tokens
+        → HasNoEquals tokens → HasCause text (Cycle start end) → ⊥ }
+    ensures deep_use { (text : List ℕ) (tokens : List Token) (start end : ℕ) → AreTokens text tokens
+        → HasNoEquals tokens → HasCause text (DeepUse start end) → ⊥ }
 {}
 
 /// A specification has at most one name more than its text has bytes, whatever its definitions stand for.

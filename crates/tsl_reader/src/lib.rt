@@ -11,7 +11,8 @@
 //!   use that stands in them, and the names by first appearance, where `?` comes directly after the signal
 //!   that it tests.
 //! - Laws: a text spells at most one specification, which fits its names, or has at most one cause of
-//!   refusal; a text derives in one way; a fault of the form or of a level is the first.
+//!   refusal; a text derives in one way; a fault of the form or of a level is the first. A text without
+//!   the token `=` has no definition, and a name of it is refused for how its sections use it.
 #![tactic(auto)]
 
 ghost use Rattle.std.specs.Prelude.{◌≡◌, ◌<◌, ◌-◌, ◌^◌, length, IfOk, IfErr};
@@ -35,8 +36,9 @@ mod text_names;
 mod uses;
 
 pub use laws::{
-    names_are_few, names_stand_in_order, one_cause, one_specification, spelled_specifications_fit,
-    texts_without_definitions_are_their_sections,
+    clashes_are_those_of_written_uses, names_are_few, names_stand_in_order, one_cause,
+    one_specification, spelled_specifications_fit, texts_without_definitions_are_their_sections,
+    texts_without_equals_are_refused_by_their_uses, texts_without_equals_are_their_sections,
 };
 pub use spec_syntax::{
     declarations_have_one_reading, deep_faults_of_declarations_are_the_first,

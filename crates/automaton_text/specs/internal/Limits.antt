@@ -1,5 +1,5 @@
 -- Internal: when what a reader read is an automaton, and which limit it passes.
-use Rattle.std.specs.Prelude.{◌≡◌, ℕ, ◌<◌, ◌≤◌, length}
+use Rattle.std.specs.Prelude.{◌≡◌, ◌<◌, ◌≤◌, length}
 use Rattle.std.specs.List.{AllByRecursion}
 use Rattle.letter_space.specs.declared.limits.TheConstants.{MOST_BITS}
 use Rattle.cobuchi_automata.specs.Refusals.{most_automaton_states, most_automaton_edges}
