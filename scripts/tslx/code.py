@@ -328,7 +328,7 @@ def in_braces(condition: str, yes: List[str], no: List[str], chained: bool, inde
 
 
 class C(Language):
-    """C, from its second standard on, and what C++ takes of it."""
+    """C, from its standard of 1999 on, and what C++ takes of it."""
     words = C_WORDS
 
     def __init__(self, name: str, program: Program):

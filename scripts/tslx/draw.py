@@ -3,11 +3,12 @@ from typing import Dict, List, Optional, Tuple
 
 from .answers import Environment, NoneText, read_none
 from .automata import Automaton, read_automaton
-from .files import Stop, gather, write
+from .files import Stop, gather, shown, write
 from .formulas import Update, write_test, write_update
 from .given import options_of, title_of
 from .play import alike
 from .programs import HEAD, Branch, Leaf, Node, Program, read_program, write_window
+from .simplify import below
 from .tokens import Unreadable
 
 HELP = """tslx draw [--title TITLE] [--output NAME] [FILE] | dot -Tsvg
@@ -37,7 +38,7 @@ def begins(kind: str, title: str) -> List[str]:
 def alone(program: Program, name: str) -> Program:
     """The program with one of its updates alone, where states are one that do the same from there on, and tests go that change nothing."""
     if name not in program.controlled:
-        raise Stop(f"the program has no cell or output {name}; it has {', '.join(program.controlled) or 'none'}", 1)
+        raise Stop(f"the program has no cell or output {shown(name)}; it has {', '.join(program.controlled) or 'none'}", 1)
     place = program.controlled.index(name)
     group = [0] * len(program.states)
     while True:
@@ -70,14 +71,14 @@ def alone(program: Program, name: str) -> Program:
 
 def used_alone(program: Program) -> Program:
     """The program with the states and nodes that are come to from state 0."""
-    reached, left = {0: 0}, [0]
+    reached, left, made = {0: 0}, [0], dict(enumerate(program.nodes))
     for state in left:
-        for number in program.reached(program.states[state]):
+        for number in below(made, program.states[state]):
             node = program.nodes[number]
             if isinstance(node, Leaf) and node.go not in reached:
                 reached[node.go] = len(reached)
                 left.append(node.go)
-    kept = sorted({number for state in left for number in program.reached(program.states[state])})
+    kept = sorted({number for state in left for number in below(made, program.states[state])})
     numbers = {old: new for new, old in enumerate(kept)}
     nodes: List[Node] = []
     for old in kept:
@@ -205,6 +206,6 @@ def drawing(text: str, title: str, output: Optional[str]) -> List[str]:
 def main(words: List[str]) -> int:
     """Writes a drawing."""
     options, files = options_of("draw", words, {"--title": "a title", "--output": "the name of a cell or an output"}, 0, 1, "one file")
-    title = options.get("--title", title_of(files) if files and files[0] != "-" else "")
+    title = shown(options.get("--title", title_of(files) if files and files[0] != "-" else ""))
     write("".join(line + "\n" for line in drawing(gather(files).text, title, options.get("--output"))))
     return 0

@@ -93,6 +93,6 @@ def program_in(gathered: Gathered) -> Program:
 
 
 def title_of(files: Sequence[str]) -> str:
-    """A name from the last file: without folders and what stands behind a dot."""
-    name = pathlib.PurePath(files[-1]).name if files and files[-1] != "-" else ""
-    return shown(name.split(".")[0]) or "controller"
+    """A name from the last file, without folders and what stands behind a dot; for what is no file, `controller`."""
+    name = pathlib.PurePath(files[-1]).name if files and files[-1] != "-" and not files[-1].startswith("/dev/") else ""
+    return name.split(".")[0] or "controller"

@@ -258,7 +258,7 @@ What went, and why, is told on the error output: mostly what a program does once
 
 def main(words: List[str]) -> int:
     """Writes a smaller program."""
-    options, files = options_of("simplify", words, {"--bound": "0 to 15", "--most": "1 to 100000"}, 1, None, "the files of a specification and a program")
+    options, files = options_of("simplify", words, {"--bound": "0 to 15", "--most": "1 to 100000"}, 0, None, "the files of a specification and a program")
     bound, most = number_in(options, "--bound", 0, 15, 2), number_in(options, "--most", 1, 100000, 2000)
     gathered = gather(files)
     asked = ["check", "--bound", str(bound)]

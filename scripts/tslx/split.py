@@ -4,6 +4,7 @@ from dataclasses import dataclass, field
 from typing import Dict, List, Optional, Set, Tuple
 
 from .asking import Answer, ask
+from .code import spelled
 from .files import Stop, gather, shown, tell, write
 from .formulas import Formula, Signal, Update, atoms, signals_read, terms, write_formula
 from .given import number_in, options_of, specification_in
@@ -144,9 +145,10 @@ def tried(part: Part, most: int, bound: int) -> Answer:
     return answer
 
 
-def place_of(folder: str, name: str, end: str) -> str:
-    """A file of a part."""
-    return os.path.join(folder, name.replace("'", "_prime") + end)
+def written(folder: str, name: str, text: str) -> None:
+    """Writes a file of a part."""
+    with open(os.path.join(folder, name), "wb") as file:
+        file.write(text.encode("latin-1"))
 
 
 def main(words: List[str]) -> int:
@@ -159,24 +161,23 @@ def main(words: List[str]) -> int:
     parts, joins = parts_of(spec, space)
     if not parts:
         raise Stop("the specification updates no signal, so it has no parts", 1)
-    for item, names in joins:
-        tell(f"tslx: line {item.place.line} keeps {' and '.join(names)} together: {write_formula(item.formula)}")
+    for item, together in joins:
+        tell(f"tslx: line {item.place.line} keeps {' and '.join(together)} together: {write_formula(item.formula)}")
+    names = spelled([part.signals[0] for part in parts], frozenset())
     try:
         os.makedirs(folder, exist_ok=True)
         for part in parts:
             kept = {item.place.start for _, item in part.items}
             part.text = without(spec, [item for _, item in spec.items() if item.place.start not in kept])
-            with open(place_of(folder, part.signals[0], ".tsl"), "wb") as file:
-                file.write(part.text.encode("latin-1"))
+            written(folder, names[part.signals[0]] + ".tsl", part.text)
         failed = False
         for part in parts:
             guarantees = sum(1 for section, _ in part.items if section.kind == "guarantee")
-            head = f"tslx: {part.signals[0]}.tsl has {', '.join(part.signals)}, {counted(guarantees, 'guarantee')}"
+            head = f"tslx: {names[part.signals[0]]}.tsl has {', '.join(part.signals)}, {counted(guarantees, 'guarantee')}"
             answer = tried(part, most, bound)
             if answer.status == 0:
                 part.program = read_program(answer.out)
-                with open(place_of(folder, part.signals[0], ".program"), "wb") as file:
-                    file.write(answer.out.encode("latin-1"))
+                written(folder, names[part.signals[0]] + ".program", answer.out)
                 tell(f"{head}: a program of {counted(len(part.program.states), 'state')} and {counted(len(part.program.nodes), 'node')}")
                 continue
             failed = True

@@ -73,7 +73,7 @@ def tlsf(spec: Specification, title: str) -> str:
     parts["guarantee"] += [f"G ({exactly_one(own, names)})" for _, own in updates]
     lines = ["// Written by tslx tlsf. What the names stand for:"]
     lines += [f"//   {said}: {text}" for text, said in names.items()]
-    quoted = title.replace("\\", "").replace('"', "")
+    quoted = re.sub(r'[^ !#-\[\]-~]', "_", title)
     lines += ["INFO {", f'  TITLE:       "{quoted}"', f'  DESCRIPTION: "the tests and updates of {quoted}, each taken as it is named"', "  SEMANTICS:   Mealy",
               "  TARGET:      Mealy", "}", "MAIN {", "  INPUTS {", *(f"    {names[it]};" for it in tests), "  }",
               "  OUTPUTS {", *(f"    {names[it]};" for _, own in updates for it in own), "  }"]

@@ -4,6 +4,7 @@ from typing import List, Optional, Tuple
 
 from .asking import ask
 from .files import Gathered, gather, write
+from .files import shown as shown_name
 from .formulas import Signal, Test, write_term, write_test
 from .given import options_of, parts_of_text, refused, title_of
 from .meanings import Meaning, read_meaning, truth_of
@@ -149,5 +150,5 @@ def picture(it: Shown, title: str) -> str:
 def main(words: List[str]) -> int:
     """Writes the picture of a run."""
     options, files = options_of("wave", words, {"--title": "a title"}, 0, None, "the files of a run, or its text")
-    write(picture(shown(gather(files)), options.get("--title", title_of(files))))
+    write(picture(shown(gather(files)), shown_name(options.get("--title", title_of(files)))))
     return 0
