@@ -1,6 +1,5 @@
 pub mod BitLines
 pub mod BodyLines
-pub mod FirstLines
 pub mod Found
 pub mod HoaGroups
 pub mod HoaKept
@@ -12,3 +11,4 @@ pub mod LiteralLines
 pub mod Reading
 pub mod WrittenRead
 pub mod Writing
+mod FirstLines

@@ -6,8 +6,7 @@
 //! `specs/HoaText.antt` has the text of an automaton, `specs/BitNames.antt` what the bits are called,
 //! and `specs/HoaLines.antt` the formats of the lines and which line may come next.
 //! `specs/HoaRefusals.antt` says why a text is refused: for its first wrong line, and otherwise for
-//! the first limit that is passed; `specs/FirstWrongLine.antt`, which line is the first with which
-//! no text of an automaton goes on.
+//! the first limit that is passed.
 #![tactic(auto)]
 
 mod header;
