@@ -89,11 +89,23 @@ def used_alone(program: Program) -> Program:
 
 # ---- drawings ----
 
+def alike_as_one(program: Program) -> Program:
+    """The program in which all lead to the first of nodes that are alike; the others stay, and nothing leads to them."""
+    known: Dict[Node, int] = {}
+    stands: List[int] = []
+    nodes: List[Node] = []
+    for number, node in enumerate(program.nodes):
+        now = Branch(node.test, stands[node.yes], stands[node.no]) if isinstance(node, Branch) else Leaf(node.updates, node.go)
+        nodes.append(now)
+        stands.append(known.setdefault(now, number))
+    return Program(program.inputs, program.cells, program.outputs, program.windows, nodes, [stands[entry] for entry in program.states])
+
+
 class Drawing:
     """The drawing of a program, as it is made."""
 
     def __init__(self, program: Program):
-        self.program = program
+        self.program = alike_as_one(program)
         self.lines: List[str] = []
         self.moves: List[str] = []
         self.drawn: set = set()
@@ -123,7 +135,7 @@ class Drawing:
             if number in done:
                 continue
             done.add(number)
-            self.drawn.add(number)
+            self.drawn.add(node)
             if isinstance(node, Branch):
                 self.lines.append(f'    {box}n{number} [label="{quoted(write_test(node.test))}", shape=ellipse];')
                 work += [(number, True), (node.no, False), (node.yes, False)]
@@ -145,7 +157,7 @@ class Drawing:
                 self.lines.append(f'    s{state}stay [label="again", shape=plaintext, fontcolor=blue, height=0.2];')
             self.lines.append("  }")
         for number in range(len(self.program.nodes) - 1, -1, -1):
-            if number not in self.drawn:
+            if self.program.nodes[number] not in self.drawn:
                 self.put(number, "")
         told = "each step: " + " ".join(quoted(write_update(it)) for it in self.shared) + "\\l" if self.shared else ""
         told += "".join(quoted(write_window(it)) + "\\l" for it in self.program.windows)
