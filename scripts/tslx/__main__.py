@@ -69,6 +69,20 @@ def command(words: List[str]) -> int:
     return module.main(words if hasattr(module, "help_of") else words[1:])
 
 
+INTERRUPTS = (signal.SIGINT, signal.SIGTERM, signal.SIGHUP)
+
+
+def interrupted(*_: object) -> None:
+    """Ends the command with the status 130, and the questions that are asked; further interrupts are not heard."""
+    for number in INTERRUPTS:
+        signal.signal(number, signal.SIG_IGN)
+    # A question that is about to start ends with the command.
+    interrupt = getattr(sys.modules.get("tslx.asking"), "interrupt", None)
+    if interrupt is None:
+        sys.exit(130)
+    interrupt()
+
+
 def main() -> int:
     """Runs the command of the command line, and gives the status."""
     from tslx.files import Stop, tell
@@ -77,8 +91,8 @@ def main() -> int:
         stream = getattr(sys, name)
         if stream is not None:
             stream.reconfigure(encoding="latin-1", errors="replace", newline="\n")
-    for number in (signal.SIGINT, signal.SIGTERM, signal.SIGHUP):
-        signal.signal(number, lambda *_: sys.exit(130))
+    for number in INTERRUPTS:
+        signal.signal(number, interrupted)
     try:
         status = command(sys.argv[1:])
         sys.stdout.flush()

@@ -3,6 +3,7 @@ import atexit
 import os
 import subprocess
 import sys
+import threading
 from dataclasses import dataclass
 from typing import List, Optional, Sequence, Set, Union
 
@@ -26,6 +27,9 @@ class Answer:
 
 found: Optional[str] = None
 running: Set["subprocess.Popen[bytes]"] = set()
+# A question that starts is among those that run before an interrupt ends them; `starting` is so of the main thread, where interrupts come.
+lock = threading.Lock()
+starting = interrupted = stopped = False
 
 
 def program() -> str:
@@ -50,12 +54,31 @@ def ended(status: int) -> int:
 
 def start(words: Sequence[str], out: Optional[int]) -> "subprocess.Popen[bytes]":
     """The program at work; it is ended with this one."""
-    try:
-        it = subprocess.Popen([program(), *words], stdin=subprocess.PIPE, stdout=out, stderr=subprocess.PIPE)
-    except OSError as error:
-        raise Stop(f"cannot run {program()}: {(error.strerror or str(error)).lower()}", 125)
-    running.add(it)
+    global starting
+    main = threading.current_thread() is threading.main_thread()
+    asked = program()
+    with lock:
+        if stopped:
+            raise Stop("", 130)
+        try:
+            starting = starting or main
+            it = subprocess.Popen([asked, *words], stdin=subprocess.PIPE, stdout=out, stderr=subprocess.PIPE)
+            running.add(it)
+        except OSError as error:
+            raise Stop(f"cannot run {asked}: {(error.strerror or str(error)).lower()}", 125)
+        finally:
+            starting = starting and not main
+    if main and interrupted:
+        sys.exit(130)
     return it
+
+
+def interrupt() -> None:
+    """Ends the command, or where a question is about to start, has it end then."""
+    global interrupted
+    interrupted = True
+    if not starting:
+        sys.exit(130)
 
 
 def bytes_of(text: Union[str, bytes]) -> bytes:
@@ -82,7 +105,10 @@ def ask_through(words: Sequence[str], text: Union[str, bytes]) -> Answer:
 
 @atexit.register
 def stop_all() -> None:
-    """Ends the questions that are still asked."""
+    """Ends the questions that are still asked, and lets none start."""
+    global stopped
+    with lock:
+        stopped = True
     for it in list(running):
         if it.poll() is None:
             it.kill()

@@ -60,17 +60,19 @@ def back(spec: Specification, circuit: Circuit) -> Program:
             nodes.append(node)
         return known[node]
 
+    every = list(valuations(len(tests)))
+    given = [0] * len(circuit.inputs)
+    for place, test in enumerate(tests):
+        if test in reads:
+            given[reads[test]] = sum(1 << bit for bit, valuation in enumerate(every) if valuation[place])
     for state in states:
         leaves: Dict[Tuple[bool, ...], Leaf] = {}
-        for valuation in valuations(len(tests)):
-            given = [False] * len(circuit.inputs)
-            for test, truth in zip(tests, valuation):
-                if test in reads:
-                    given[reads[test]] = truth
-            outputs, after = circuit.step(state, given)
+        outputs, nexts = circuit.steps(state, given, (1 << len(every)) - 1)
+        for bit, valuation in enumerate(every):
+            after = tuple(it >> bit & 1 == 1 for it in nexts)
             taken = []
             for name, own in signals:
-                on = [i for i, text in enumerate(own) if outputs[writes[text]]]
+                on = [i for i, text in enumerate(own) if outputs[writes[text]] >> bit & 1]
                 if len(on) != 1:
                     where = ", ".join(("" if truth else "not ") + test for test, truth in zip(tests, valuation)) or "there is no test"
                     said = "no update of" if not on else "more than one update of"

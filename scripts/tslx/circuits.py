@@ -25,15 +25,20 @@ class Circuit:
 
     def step(self, latches: Sequence[bool], inputs: Sequence[bool]) -> Tuple[List[bool], Tuple[bool, ...]]:
         """The outputs where latches and inputs have values, and the latches' next values. Gates have to stand in an order of computing."""
-        values = {0: False}
-        values.update((literal // 2, value) for literal, value in zip(self.inputs, inputs))
-        values.update((latch // 2, value) for (latch, _), value in zip(self.latches, latches))
+        outputs, after = self.steps(latches, list(map(int, inputs)), 1)
+        return [bit == 1 for bit in outputs], tuple(bit == 1 for bit in after)
 
-        def of(literal: int) -> bool:
-            return values[literal // 2] != (literal % 2 == 1)
+    def steps(self, latches: Sequence[bool], inputs: Sequence[int], every: int) -> Tuple[List[int], List[int]]:
+        """As many steps as `every` has bits, all of which are set: bit b of an input, of an output and of a latch's next value is that of step b."""
+        values = {0: 0}
+        values.update((literal // 2, bits) for literal, bits in zip(self.inputs, inputs))
+        values.update((latch // 2, every if value else 0) for (latch, _), value in zip(self.latches, latches))
+
+        def of(literal: int) -> int:
+            return values[literal // 2] ^ (every if literal % 2 else 0)
         for gate, left, right in self.gates:
-            values[gate // 2] = of(left) and of(right)
-        return [of(literal) for literal in self.outputs], tuple(of(after) for _, after in self.latches)
+            values[gate // 2] = of(left) & of(right)
+        return [of(literal) for literal in self.outputs], [of(after) for _, after in self.latches]
 
 
 def ordered(gates: List[Tuple[int, int, int]], known: List[int], line: int) -> List[Tuple[int, int, int]]:

@@ -112,7 +112,8 @@ def main(words: List[str]) -> int:
     for said in search.told:
         tell("tslx: " + said)
     counted = "1 guarantee cannot be kept" if len(core) == 1 else f"{len(core)} guarantees clash"
-    lines = [f"{counted}, of {len(items)}; {search.asked} questions were asked"]
+    spared = ", as far as is known" if search.told else "" if len(core) == 1 else ", and none of them can be spared"
+    lines = [f"{counted}, of {len(items)}{spared}; {search.asked} questions were asked"]
     for section, item in core:
         name, line = gathered.place(item.place.line)
         lines.append(f"{name}:{line}: {section.when + ' ' if section.when else ''}{write_formula(item.formula)}")

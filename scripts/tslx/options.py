@@ -25,7 +25,7 @@ class Option:
 
 STATES = Option("--states", "N", 1, 8, 2, "how many states a controller has")
 BOUND = Option("--bound", "K", 0, 15, 2, "how often a path of the controller's automaton may pass a rejecting edge")
-FULL_BOUND = Option("--bound", "K", 0, 15, 2, BOUND.what + ";\n                    full: as much as can help", "full")
+FULL_BOUND = Option("--bound", "K", 0, 15, 2, BOUND.what + "; full: as much as can help", "full")
 ENV_STATES = Option("--env-states", "M", 1, 8, 2, "how many states an environment has")
 ENV_BOUND = Option("--env-bound", "J", 0, 15, 2, "how often a path of the environment's automaton may pass a rejecting edge")
 DEPTH = Option("--depth", "D", 1, 3, 2, "how many steps a window has at most")
@@ -59,7 +59,7 @@ def help_of(command: str) -> str:
     files = takes if command == "gen" else "[FILE].."
     text = f"tslx {command} {'[OPTION].. ' if options else ''}{files}\n{what}\n"
     if command != "gen":
-        text += f"The files are read one after the other, {takes}; no file, or -: standard input.\n"
+        text += f"It reads {takes}, from the files one after the other; no file, or -: standard input.\n"
     return text + option_lines(options)
 
 

@@ -1,2 +1,3 @@
 pub mod LetterLines
 pub mod LoopLaws
+pub mod FirstLines

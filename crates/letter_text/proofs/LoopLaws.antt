@@ -16,6 +16,7 @@ use Rattle.line_formats.proofs.MachineLaws.{steps_append, read_is_text, text_is_
 use Rattle.letter_text.specs.LetterText.{Numbers, leaves, spaced, letter_line, back_line, line, line_value, as_members, true_numbers}
 use Rattle.letter_text.specs.LetterText.{letter_text, back_text, LoopTree, IsLoop, loop_lines, loop_text, rise, State, fresh, when, next}
 use Rattle.letter_text.specs.LetterText.{step, step_from, whole}
+use Rattle.letter_text.specs.FirstWrongLine.{said_of}
 use Rattle.letter_text.specs.LoopView.{letter_view, reader_state}
 use Rattle.letter_text.specs.declared.letter_loop.Letter.{Letter}
 use Rattle.letter_text.specs.declared.reader.LettersReader.{LettersReader}
@@ -107,25 +108,33 @@ module _ (bits : ℕ) where
 
 -- ---- what is read
 
+-- lines that the steps take to the end are those of a loop, and this is what they say
+pub of_loop : (bits : ℕ) (ls : List (List ℕ)) (t : State) → IsText step whole (fresh bits) ls t →
+    (loop : LoopTree) × IsLoop bits loop × (ls ≡ loop_lines loop) × (t ≡ said_of bits loop)
+of_loop bits ls t is =
+    let held = holds_after step whole (fresh bits) (Holds bits) (kept bits) ls t (refl, refl, tt) is.says in
+    let all = says_written step whole written (Holds bits) (kept bits) (one bits) ls (fresh bits) t (refl, refl, tt) is.says in
+    by t.back refl held all is.done
+  where
+    by : (o : Option ℕ) → t.back ≡ o → Holds bits t → written t ≡ ls → whole t ≡ true →
+        (loop : LoopTree) × IsLoop bits loop × (ls ≡ loop_lines loop) × (t ≡ said_of bits loop)
+    by None e held all done = absurd (cc (e, done))
+    by (Some back) e held all done = (
+      record { letters = t.letters; back = back },
+      (held.1, subst (λ o. IsBelow o (length t.letters)) e held.2),
+      sym all ∙ ap (λ o. map letter_text t.letters ++ back_lines o) e,
+      λ i. record { bits = held.0 i; letters = t.letters; back = e i },
+    )
+
 told : (bits : ℕ) (text : List ℕ) (t : State) (back : ℕ) → read_from step whole (fresh bits) 1 (lines_from 1 text) ≡ Ok t →
     ((other : ℕ) → t.back ≡ Some other → other ≡ back) →
     IsLoop bits (record { letters = t.letters; back = back }) × (text ≡ loop_text (record { letters = t.letters; back = back }))
 told bits text t back h only =
     let found = read_is_text step whole text (fresh bits) t h in
-    let held = holds_after step whole (fresh bits) (Holds bits) (kept bits) found.0 t (refl, refl, tt) found.2.says in
-    let all = says_written step whole written (Holds bits) (kept bits) (one bits) found.0 (fresh bits) t (refl, refl, tt) found.2.says in
-    by found.0 t.back refl found.2.done held all found.1
-  where
-    by : (ls : List (List ℕ)) (o : Option ℕ) → t.back ≡ o → whole t ≡ true → Holds bits t → written t ≡ ls →
-        text ≡ text_of_lines ls →
-        IsLoop bits (record { letters = t.letters; back = back }) × (text ≡ loop_text (record { letters = t.letters; back = back }))
-    by ls None e done held all split = absurd (cc (e, done))
-    by ls (Some b) e done held all split =
-        let same : b ≡ back = only b e in
-        let below : IsBelow (Some b) (length t.letters) = subst (λ o. IsBelow o (length t.letters)) e held.2 in (
-          (held.1, subst (λ n. n < length t.letters) same below),
-          split ∙ ap text_of_lines (sym all) ∙ ap (λ o. text_of_lines (map letter_text t.letters ++ back_lines o)) (e ∙ ap Some same),
-        )
+    let of = of_loop bits found.0 t found.2 in
+    let last : of.0.back ≡ back = only of.0.back (ap (λ (s : State). s.back) of.3) in
+    let same : of.0 ≡ record { letters = t.letters; back = back } = λ i. record { letters = ap (λ (s : State). s.letters) (sym of.3) i; back = last i } in
+    (subst (IsLoop bits) same of.1, found.1 ∙ ap text_of_lines of.2 ∙ ap loop_text same)
 
 -- the same, as the code has it
 pub loop_read : (bits : ℕ) (text : List ℕ) (first : State) (reader : LettersReader) → first ≡ fresh bits →
@@ -196,27 +205,29 @@ back_is_line : (back : ℕ) → back < 10 ^ 18 → is_line (back_text back) ≡ 
 back_is_line back short =
     print_is_line Numbers leaves law back_line refl (back, tt) (and_from (ltb back (10 ^ 18)) true (lt-ltb back (10 ^ 18) short) refl)
 
-pub is_text : (bits : ℕ) (loop : LoopTree) → bits < 2 ^ 32 → length loop.letters < 2 ^ 32 → IsLoop bits loop →
-    IsText step whole (fresh bits) (loop_lines loop) (record { bits = bits; letters = loop.letters; back = Some loop.back })
-is_text bits loop few short is =
+pub is_short_text : (bits : ℕ) (loop : LoopTree) → bits < 2 ^ 32 → loop.back < 10 ^ 18 → IsLoop bits loop →
+    IsText step whole (fresh bits) (loop_lines loop) (said_of bits loop)
+is_short_text bits loop few short is =
     let steps_all = letters_step bits few [] loop.letters is.0 in
     let going : State = record { bits = bits; letters = loop.letters; back = None } in
-    let written : loop.back < 10 ^ 18 = omega (arith, is.1, short) in
     record {
       lines = list_all_joined is_line (map letter_text loop.letters) (back_text loop.back ∷ []) steps_all.1
-          (and_from (is_line (back_text loop.back)) true (back_is_line loop.back written) refl);
+          (and_from (is_line (back_text loop.back)) true (back_is_line loop.back short) refl);
       says = steps_append step whole (fresh bits) going (map letter_text loop.letters) (back_text loop.back ∷ []) steps_all.0
-          ∙ ap (option_and_then (λ t. Some t)) (back_steps going loop.back refl written is.1);
+          ∙ ap (option_and_then (λ t. Some t)) (back_steps going loop.back refl short is.1);
       done = refl;
     }
+
+pub is_text : (bits : ℕ) (loop : LoopTree) → bits < 2 ^ 32 → length loop.letters < 2 ^ 32 → IsLoop bits loop →
+    IsText step whole (fresh bits) (loop_lines loop) (said_of bits loop)
+is_text bits loop few short is = let below = is.1 in is_short_text bits loop few (omega (arith, below, short)) is
 
 pub never_wrong : (bits : ℕ) (loop : LoopTree) (number : ℕ) → bits < 2 ^ 32 → length loop.letters < 2 ^ 32 → IsLoop bits loop →
     IsFirstWrong step whole (fresh bits) (with_last_feed (loop_text loop)) number → ⊥
 never_wrong bits loop number few short is wrong =
     let ended : with_last_feed (loop_text loop) ≡ loop_text loop =
     ap (λ b. if b then loop_text loop else loop_text loop ++ 10 ∷ []) (ended_made (loop_lines loop)) in
-    wrong.none (loop_lines loop) (record { bits = bits; letters = loop.letters; back = Some loop.back })
-    (is_text bits loop few short is) ended
+    wrong.none (loop_lines loop) (said_of bits loop) (is_text bits loop few short is) ended
 
 pub one_loop : (bits : ℕ) (a b : LoopTree) → bits < 2 ^ 32 → length a.letters < 2 ^ 32 → length b.letters < 2 ^ 32 → IsLoop bits a →
     IsLoop bits b → loop_text a ≡ loop_text b → a ≡ b

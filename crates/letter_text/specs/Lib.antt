@@ -1,2 +1,3 @@
 pub mod LetterText
 pub mod LoopView
+pub mod FirstWrongLine

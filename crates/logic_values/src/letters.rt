@@ -21,11 +21,6 @@ pub fn finally(alloc: Global, formula: Ltl) -> Result<Ltl, NoMemory> {
     Ok(Ltl::Until(before, Box::new(alloc, formula)?))
 }
 
-/// Both formulas hold.
-pub fn both(alloc: Global, left: Ltl, right: Ltl) -> Result<Ltl, NoMemory> {
-    Ok(Ltl::All(two(alloc, left, right)?))
-}
-
 /// One of two formulas holds.
 pub fn either(alloc: Global, left: Ltl, right: Ltl) -> Result<Ltl, NoMemory> {
     Ok(Ltl::Any(two(alloc, left, right)?))

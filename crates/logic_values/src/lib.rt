@@ -1,6 +1,6 @@
 //! Formulas over bits, spaces, environments and clauses that the tests of several crates build.
 //!
-//! - Formulas over bits: `next`, `always`, `finally`, `both`, `either`.
+//! - Formulas over bits: `next`, `always`, `finally`, `either`.
 //! - Spaces: `no_bits`, and `space_of_spec`, that of a specification.
 //! - Environments: `still_environment`.
 //! - Literals, clauses and formulas in conjunctive normal form: `literal`, `clause`, `formula`, `formula_of`.
@@ -16,5 +16,5 @@ mod spaces;
 
 pub use clauses::{clause, formula, formula_of, literal};
 pub use environments::still_environment;
-pub use letters::{always, both, either, finally, next};
+pub use letters::{always, either, finally, next};
 pub use spaces::{no_bits, space_of_spec};

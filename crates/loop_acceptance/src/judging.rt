@@ -15,14 +15,14 @@ use cobuchi_automata::Automaton;
 use sequence::NoMemory;
 use std::alloc::Global;
 
-/// How many pairs of a letter and a state may be searched: memory ends before.
+/// How many pairs of a letter and a state are searched: a node has 32 bits, so that an open one takes 8 bytes.
 const MOST_NODES: usize = 1 << 32;
 
 /// Whether an automaton accepts the loop of these letters whose last one goes on to the one with the number
 /// `back`, from 0: whether it has a path from its start over the loop that turns through a rejecting edge.
 /// On the automaton of a formula that is whether the formula holds on the loop at position 0. It takes time
 /// and memory linear in the number of letters times the numbers of states and edges. An `Err` says that
-/// memory ran out.
+/// memory ran out, or that the letters times the states are more than 2^32, whatever memory there is.
 pub fn judge_loop(
     alloc: Global,
     automaton: &Automaton,

@@ -27,12 +27,7 @@ fn sink(alloc: Global, fails_at: u64) -> Result<MemorySink, AllocError> {
 }
 
 /// Runs the program without words, where these calls of the source and the first sink fail.
-fn run(
-    alloc: Global,
-    text: &[u8],
-    read_fails: u64,
-    write_fails: u64,
-) -> Result<Ran, AllocError> {
+fn run(alloc: Global, text: &[u8], read_fails: u64, write_fails: u64) -> Result<Ran, AllocError> {
     let mut from = source(alloc, text, read_fails)?;
     let mut out = sink(alloc, write_fails)?;
     let mut err = sink(alloc, 0)?;

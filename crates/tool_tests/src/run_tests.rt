@@ -378,7 +378,14 @@ const WHEELS: &[(u32, Status, &[u8])] = &[
 fn what_comes_at_one_of_130_positions_comes_again_and_again(rt: HostRuntime) -> Result<(), Fail> {
     let alloc = rt.alloc();
     for &(looked_for, status, says) in WHEELS {
-        let ran = run(alloc, &["run"], &wheel(alloc, looked_for)?, PLAIN, PLAIN, PLAIN)?;
+        let ran = run(
+            alloc,
+            &["run"],
+            &wheel(alloc, looked_for)?,
+            PLAIN,
+            PLAIN,
+            PLAIN,
+        )?;
         assert_eq!(rt; ran.status, status);
         assert_eq!(rt; ran.out.ends_with(says), true);
         assert_eq!(rt; ran.err.is_empty(), true);

@@ -1,5 +1,4 @@
--- The replies of `circuit`, `automaton` and `accepts` where nothing is refused and no limit is passed, and the limits that `circuit`
--- tells.
+-- The replies of `circuit`, `automaton` and `accepts` where nothing is refused and no limit is passed, and the limits that they tell.
 use Rattle.std.proofs.Common.{◌≡◌, ℕ, ◌<◌, ◌≤◌, ◌^◌, Bool, true, false, List, drop, length, Some, refl, ap, sym, ◌∙◌, subst, arith}
 use Rattle.std.proofs.lemmas.List.{length-drop}
 use Rattle.line_formats.specs.Machine.{IsFirstWrong, with_last_feed}
@@ -12,11 +11,19 @@ use Rattle.automaton_text.specs.HoaText.{IsHoaText}
 use Rattle.automaton_text.specs.HoaRefusals.{IsHoaRefusal, IsSmall}
 use Rattle.automaton_text.proofs.WrittenRead.{one_automaton, never_wrong}
 use Rattle.tsl_report.specs.declared.fault.Fault.{Fault}
+use Rattle.tsl_report.specs.declared.fault.Fault.TheVariants.{Large}
+use Rattle.tsl_report.specs.declared.fault.LimitName.{LimitName}
 use Rattle.tsl_terms.specs.SpecTree.{SpecTree}
 use Rattle.program_tree.specs.ProgramTree.{ProgramTree}
 use Rattle.tsl_reader.specs.Spells.{Spells}
 use Rattle.tsl_reader.proofs.Causes.{one_spec}
 use Rattle.program_check.specs.declared.verdict.Limit.{Limit}
+use Rattle.program_check.specs.declared.verdict.Limit.TheVariants.{Predicates, Choices, Vectors, Clauses, Branches}
+use Rattle.program_check.specs.declared.verdict.Limit.TheVariants.{Bits as BitLimit, States as StateLimit, Edges as EdgeLimit}
+use Rattle.letter_space.specs.declared.limits.TheConstants.{MOST_PREDICATES, MOST_BITS}
+use Rattle.letter_space.specs.SpaceTree.{bit_count}
+use Rattle.letter_space.specs.SpecSpace.{spec_space}
+use Rattle.cobuchi_automata.proofs.AutomatonLemmas.{has_choices, passes_states, passes_edges}
 use Rattle.program_check.specs.declared.verdict.Verdict.TheVariants.{Yes}
 use Rattle.program_check.specs.Verdicts.{IsPassed}
 use Rattle.tool_ends.specs.declared.reply.Reply.{Reply}
@@ -30,7 +37,7 @@ use Rattle.judging_replies.specs.Check.{judged, verdict_reply as check_reply}
 use Rattle.judging_replies.specs.Judged.{IsAcceptedPair}
 use Rattle.judging_replies.proofs.OneInput.{one_before, one_after}
 use Rattle.exchange_replies.specs.Circuit.{CircuitOutcome, not_accepted, accepted}
-use Rattle.exchange_replies.specs.Automaton.{IsPastFor, AutomatonOutcome, refused, of_spec, too_large, told}
+use Rattle.exchange_replies.specs.Automaton.{negated_form, IsPastFor, IsWrittenAutomaton, AutomatonOutcome, refused, of_spec, too_large, told}
 use Rattle.exchange_replies.specs.Accepts.{letters_line, AcceptsParts, AreAcceptsParts, verdict_reply, LoopOutcome, automaton_refused}
 use Rattle.exchange_replies.specs.Accepts.{AcceptsInput, SpellAcceptsInput, IsAutomatonFault}
 use Rattle.exchange_replies.proofs.LetterCounts.{letters_within}
@@ -74,13 +81,42 @@ automaton_answers bytes spec spells within reply (of_spec other there (too_large
     absurd (within limit (subst (λ (s : SpecTree). IsPastFor s limit) (one_spec bytes other spec there spells) past))
 automaton_answers bytes spec spells within reply (of_spec other there (told h)) = ap is_done h.status
 
+-- where a limit is passed there is no automaton within the limits
+past_not_written : (spec : SpecTree) (text : List ℕ) (limit : Limit) → IsPastFor spec limit → IsWrittenAutomaton spec text → ⊥
+past_not_written spec text Predicates past written =
+    let few : length (spec_space spec).predicates ≤ MOST_PREDICATES = written.few_bits.few_predicates in omega (arith, few, past)
+past_not_written spec text BitLimit past written =
+    let few : bit_count (spec_space spec) ≤ MOST_BITS = written.few_bits.few_bits in omega (arith, few, past.1)
+past_not_written spec text Choices past written =
+    has_choices (negated_form spec) written.states written.edges written.is_automaton past.1
+past_not_written spec text StateLimit past written =
+    let many = passes_states (negated_form spec) written.states written.edges written.is_automaton past.1 in
+    omega (arith, many, written.few_states)
+past_not_written spec text EdgeLimit past written =
+    let many = passes_edges (negated_form spec) written.states written.edges written.is_automaton past.1 in
+    omega (arith, many, written.few_edges)
+past_not_written spec text Vectors past written = past
+past_not_written spec text Clauses past written = past
+past_not_written spec text Branches past written = past
+
+pub automaton_tells_limits : (bytes : List ℕ) (spec : SpecTree) (reply : Reply) (limit : Limit) → Spells bytes spec →
+    IsPastFor spec limit → AutomatonOutcome bytes reply →
+    (told : Limit) × IsPastFor spec told × (reply ≡ fault_reply (fault_at_limit told))
+automaton_tells_limits bytes spec reply limit spells passed (refused fault h is) =
+    absurd (not_refused bytes spec h.error fault spells h.spells_none h.is_fault)
+automaton_tells_limits bytes spec reply limit spells passed (of_spec other there (too_large first past is)) =
+    (first, subst (λ (s : SpecTree). IsPastFor s first) (one_spec bytes other spec there spells) past, is)
+automaton_tells_limits bytes spec reply limit spells passed (of_spec other there (told h)) =
+    absurd (past_not_written spec reply.text limit passed
+    (subst (λ (s : SpecTree). IsWrittenAutomaton s reply.text) (one_spec bytes other spec there spells) h.written))
+
 -- ---- `accepts`
 
 verdict_answers : (holds : Bool) → is_yes_or_no (verdict_reply holds).status ≡ true
 verdict_answers true = refl
 verdict_answers false = refl
 
-one_division : (bytes : List ℕ) (a b : AcceptsParts) → AreAcceptsParts bytes a → AreAcceptsParts bytes b → a ≡ b
+pub one_division : (bytes : List ℕ) (a b : AcceptsParts) → AreAcceptsParts bytes a → AreAcceptsParts bytes b → a ≡ b
 one_division bytes a b h k =
     let from : h.from_line ≡ k.from_line = one_after bytes letters_line a.automaton h.from_line b.automaton k.from_line h.cut k.cut in
     λ i. record {
@@ -88,27 +124,31 @@ one_division bytes a b h k =
       letters = (h.letters ∙ ap (λ text. drop 8 text) from ∙ sym k.letters) i;
     }
 
+-- an automaton within the limits is not refused
+module _ (text : List ℕ) (bits states : ℕ) (edges : List EdgeTree) (there : IsHoaText text bits states edges)
+    (small : IsSmall bits states edges) where
+  pub automaton_stands : (error : HoaError) (fault : Fault) → IsHoaRefusal error text → IsAutomatonFault error fault → ⊥
+  automaton_stands (Form line) fault wrong is = never_wrong text bits states line edges there wrong
+  automaton_stands Bits fault past is =
+      let same = one_automaton text bits states past.bits past.states edges past.edges there past.told in
+      omega (arith, same.0, small.few_bits, past.large)
+  automaton_stands States fault past is =
+      let same = one_automaton text bits states past.bits past.states edges past.edges there past.told in
+      omega (arith, same.1, small.few_states, past.large.1)
+  automaton_stands Edges fault past is =
+      let same = one_automaton text bits states past.bits past.states edges past.edges there past.told in
+      let count : length edges ≡ length past.edges = ap length same.2 in
+      omega (arith, count, small.few_edges, past.large.2)
+  automaton_stands NoMemory fault past is = is
+
 module _ (parts : AcceptsParts) (input : AcceptsInput) (spelled : SpellAcceptsInput parts input)
     (small : IsSmall input.bits input.states input.edges) (short : length parts.letters < 2 ^ 32) where
-  same_automaton : (bits states : ℕ) (edges : List EdgeTree) → IsHoaText parts.automaton bits states edges →
+  pub same_automaton : (bits states : ℕ) (edges : List EdgeTree) → IsHoaText parts.automaton bits states edges →
       (input.bits ≡ bits) × (input.states ≡ states) × (input.edges ≡ edges)
   same_automaton bits states edges there =
       one_automaton parts.automaton input.bits input.states bits states input.edges edges spelled.automaton there
 
-  automaton_stands : (error : HoaError) (fault : Fault) → IsHoaRefusal error parts.automaton → IsAutomatonFault error fault → ⊥
-  automaton_stands (Form line) fault wrong is =
-      never_wrong parts.automaton input.bits input.states line input.edges spelled.automaton wrong
-  automaton_stands Bits fault past is =
-      let same = same_automaton past.bits past.states past.edges past.told in omega (arith, same.0, small.few_bits, past.large)
-  automaton_stands States fault past is =
-      let same = same_automaton past.bits past.states past.edges past.told in omega (arith, same.1, small.few_states, past.large.1)
-  automaton_stands Edges fault past is =
-      let same = same_automaton past.bits past.states past.edges past.told in
-      let count : length input.edges ≡ length past.edges = ap length same.2 in
-      omega (arith, count, small.few_edges, past.large.2)
-  automaton_stands NoMemory fault past is = is
-
-  letters_stand : (bits states : ℕ) (edges : List EdgeTree) (line : ℕ) → IsHoaText parts.automaton bits states edges →
+  pub letters_stand : (bits states : ℕ) (edges : List EdgeTree) (line : ℕ) → IsHoaText parts.automaton bits states edges →
       IsFirstWrong step whole (fresh bits) (with_last_feed parts.letters) line → ⊥
   letters_stand bits states edges line there wrong =
       let same = same_automaton bits states edges there in
@@ -120,11 +160,12 @@ module _ (parts : AcceptsParts) (input : AcceptsInput) (spelled : SpellAcceptsIn
       (is_text input.bits input.letters (omega (arith, few_bits)) (omega (arith, few, short)) spelled.is_loop) spelled.letters
 
   loop_answers : (reply : Reply) → LoopOutcome parts reply → is_yes_or_no reply.status ≡ true
-  loop_answers reply (automaton_refused error fault h is_fault is) = absurd (automaton_stands error fault h is_fault)
+  loop_answers reply (automaton_refused error fault h is_fault is) =
+      absurd (automaton_stands parts.automaton input.bits input.states input.edges spelled.automaton small error fault h is_fault)
   loop_answers reply (letters_refused bits states edges line there within wrong is) = absurd (letters_stand bits states edges line there wrong)
   loop_answers reply (both_spelled other there within holds exactly is) = ap is_yes_or_no (status_of is) ∙ verdict_answers holds
 
-letters_short : (bytes : List ℕ) (parts : AcceptsParts) → AreAcceptsParts bytes parts → length parts.letters ≤ length bytes
+pub letters_short : (bytes : List ℕ) (parts : AcceptsParts) → AreAcceptsParts bytes parts → length parts.letters ≤ length bytes
 letters_short bytes parts are =
     let same : parts.letters ≡ drop 8 (drop are.cut.at bytes) = are.letters ∙ ap (drop 8) are.cut.after_is in
     let rest = length-drop 8 (drop are.cut.at bytes) in
@@ -138,3 +179,56 @@ accepts_answers bytes reply few can (without_letters none is) = absurd (none can
 accepts_answers bytes reply few can (of_parts parts are outcome) =
     loop_answers can.parts can.input can.spelled can.holds (omega (arith, letters_short bytes can.parts can.are_parts, few)) reply
     (subst (λ (p : AcceptsParts). LoopOutcome p reply) (one_division bytes parts can.parts are can.are_parts) outcome)
+
+same_told : {text : List ℕ} {bits states more_bits more_states : ℕ} {edges more_edges : List EdgeTree} →
+    IsHoaText text bits states edges → IsHoaText text more_bits more_states more_edges →
+    (bits ≡ more_bits) × (states ≡ more_states) × (edges ≡ more_edges)
+same_told {text = text} {bits = bits} {states = states} {more_bits = more_bits} {more_states = more_states} {edges = edges}
+    {more_edges = more_edges} there too =
+    one_automaton text bits states more_bits more_states edges more_edges there too
+
+-- the limits of an automaton are asked in their order, so that the one that is told is the first that is passed
+module _ (text : List ℕ) (name : LimitName) (most : ℕ) where
+  one_limit : (error other : HoaError) (fault : Fault) → IsHoaRefusal error text → IsAutomatonFault error (Large name most) →
+      IsHoaRefusal other text → IsAutomatonFault other fault → fault ≡ Large name most
+  one_limit (Form line) other fault past is past_too is_too = absurd cc
+  one_limit NoMemory other fault past is past_too is_too = absurd is
+  one_limit error NoMemory fault past is past_too is_too = absurd is_too
+  one_limit Bits (Form line) fault past is wrong is_too =
+      absurd (never_wrong text past.bits past.states line past.edges past.told wrong)
+  one_limit States (Form line) fault past is wrong is_too =
+      absurd (never_wrong text past.bits past.states line past.edges past.told wrong)
+  one_limit Edges (Form line) fault past is wrong is_too =
+      absurd (never_wrong text past.bits past.states line past.edges past.told wrong)
+  one_limit Bits Bits fault past is past_too is_too = is_too ∙ sym is
+  one_limit States States fault past is past_too is_too = is_too ∙ sym is
+  one_limit Edges Edges fault past is past_too is_too = is_too ∙ sym is
+  one_limit Bits States fault past is past_too is_too =
+      let same = same_told past.told past_too.told in absurd (omega (arith, same.0, past.large, past_too.large.0))
+  one_limit Bits Edges fault past is past_too is_too =
+      let same = same_told past.told past_too.told in absurd (omega (arith, same.0, past.large, past_too.large.0))
+  one_limit States Bits fault past is past_too is_too =
+      let same = same_told past.told past_too.told in absurd (omega (arith, same.0, past.large.0, past_too.large))
+  one_limit Edges Bits fault past is past_too is_too =
+      let same = same_told past.told past_too.told in absurd (omega (arith, same.0, past.large.0, past_too.large))
+  one_limit States Edges fault past is past_too is_too =
+      let same = same_told past.told past_too.told in absurd (omega (arith, same.1, past.large.1, past_too.large.1))
+  one_limit Edges States fault past is past_too is_too =
+      let same = same_told past.told past_too.told in absurd (omega (arith, same.1, past.large.1, past_too.large.1))
+
+pub accepts_tells_limits : (bytes : List ℕ) (parts : AcceptsParts) (error : HoaError) (name : LimitName) (most : ℕ) (reply : Reply) →
+    AreAcceptsParts bytes parts → IsHoaRefusal error parts.automaton → IsAutomatonFault error (Large name most) →
+    AcceptsOutcome bytes reply → reply ≡ fault_reply (Large name most)
+accepts_tells_limits bytes parts error name most reply are past is_limit (without_letters none is) =
+    absurd (none are.cut.at are.cut.first.is_line)
+accepts_tells_limits bytes parts error name most reply are past is_limit (of_parts other are_too outcome) =
+    by (subst (λ (p : AcceptsParts). LoopOutcome p reply) (one_division bytes other parts are_too are) outcome)
+  where
+    by : LoopOutcome parts reply → reply ≡ fault_reply (Large name most)
+    by (automaton_refused second fault h is_fault is) =
+        is ∙ ap fault_reply (one_limit parts.automaton name most error second fault past is_limit h is_fault)
+    by (letters_refused bits states edges line there within wrong is) =
+        absurd (automaton_stands parts.automaton bits states edges there within error (Large name most) past is_limit)
+    by (both_spelled input there within holds exactly is) =
+        absurd (automaton_stands parts.automaton input.bits input.states input.edges there.automaton within error (Large name most) past
+        is_limit)

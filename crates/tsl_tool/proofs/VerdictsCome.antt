@@ -1,6 +1,7 @@
--- The replies of `check`, `run` and `recheck` are verdicts where the parts are spelled and no limit is passed.
-use Rattle.std.proofs.Common.{◌≡◌, ℕ, ◌+◌, Bool, true, false, List, [], refl, ap, ◌∙◌, subst}
-use Rattle.std.specs.Prelude.{Option, Some, None, if◌then◌else◌}
+-- The replies of `check`, `run` and `recheck` are verdicts where the parts are spelled and no limit is passed; and the limits that `run`
+-- and `recheck` tell.
+use Rattle.std.proofs.Common.{◌≡◌, ℕ, ◌+◌, Bool, true, false, List, [], refl, ap, sym, ◌∙◌, subst, arith}
+use Rattle.std.specs.Prelude.{◌≤◌, Option, Some, None, if◌then◌else◌}
 use Rattle.std.specs.List.{list_all}
 use Rattle.refutation_check.specs.Checking.{Refusal}
 use Rattle.program_check.specs.declared.verdict.Limit.{Limit}
@@ -11,6 +12,7 @@ use Rattle.program_tree.specs.ProgramTree.{ProgramTree}
 use Rattle.flow_program.specs.Reading.{IsReading, HasProgramCause}
 use Rattle.tsl_meaning.specs.Interpretation.{Interpretation}
 use Rattle.tsl_meaning.specs.RunLasso.{shape_of}
+use Rattle.tsl_meaning.specs.RunTree.{RunTree}
 use Rattle.tsl_meaning.specs.RunOf.{AreDifferent}
 use Rattle.tsl_terms.specs.Name.{Name}
 use Rattle.tsl_terms.specs.SpecTree.{SpecTree}
@@ -18,6 +20,8 @@ use Rattle.tsl_reader.proofs.Causes.{one_spec}
 use Rattle.table_interp.specs.Inputs.{SpellsInputs}
 use Rattle.tsl_report.specs.declared.fault.Head.{Head}
 use Rattle.tsl_report.specs.declared.fault.Fault.{Fault}
+use Rattle.tsl_report.specs.declared.fault.Fault.TheVariants.{Large}
+use Rattle.tsl_report.specs.declared.fault.LimitName.TheVariants.{Run as RunLimit}
 use Rattle.tool_ends.specs.declared.status.Status.TheVariants.{Done, No}
 use Rattle.tool_ends.specs.declared.reply.Reply.{Reply}
 use Rattle.tsl_tool.specs.Answerable.{CanBeChecked, CanBeRun, is_yes_or_no}
@@ -26,11 +30,13 @@ use Rattle.judging_replies.specs.Check.{TextsOutcome, spec_refused, program_refu
 use Rattle.tool_replies.specs.HeadLines.{IsCutBefore}
 use Rattle.judging_replies.specs.Recheck.{RecheckOutcome, without_log, of_parts, head_line, verdict, FormulaAndLog, OfParts, refusal_of}
 use Rattle.judging_replies.specs.Recheck.{recheck_reply}
+use Rattle.tool_replies.specs.HeadLines.{IsFirstLineAt}
+use Rattle.tool_replies.specs.Replies.{fault_reply}
 use Rattle.tool_replies.specs.Refusals.{HasSpecFault}
 use Rattle.judging_replies.specs.Run.{SpellsGiven, SpellsMeaning, given_names, RunInput, SpellRunInput, HasPartFault, in_spec}
 use Rattle.judging_replies.specs.Run.{in_program, in_meaning, in_inputs}
 use Rattle.judging_replies.specs.Run.{InputOutcome, runs_on, other_signals, traced, PartsOutcome, part_refused, spelled, RunOutcome, missing}
-use Rattle.judging_replies.specs.Run.{of_all_parts, meanings_of_input, most_configurations, verdict_status, verdicts_of}
+use Rattle.judging_replies.specs.Run.{of_all_parts, meanings_of_input, most_configurations, verdict_status, verdicts_of, Closes}
 use Rattle.judging_replies.specs.RunParts.{RunParts, AreParts, IsCutByStyle, LacksPart, lacks_program, lacks_meaning, lacks_inputs}
 use Rattle.judging_replies.specs.RunParts.{program_line, inputs_line}
 use Rattle.judging_replies.proofs.OneInput.{one_place, one_after, one_cut, one_division, one_run_division, one_check_input, one_given, one_program_read}
@@ -137,6 +143,24 @@ module _ (once : ReadOnce) (parts : RunParts) (input : RunInput) (spells : Spell
     parts_answer (spelled other spelled_too outcome) =
         input_answers (subst (λ (r : RunInput). InputOutcome r reply) (one_run_input once parts other input spelled_too spells) outcome)
 
+  -- where more configurations than there may be are all different, no run closes within the limit
+  module _ (different : AreDifferent (meanings_of_input input) input.program input.rows (most_configurations + 1)) (reply : Reply) where
+    never_closes : (run : RunTree ℕ) → Closes input run → ⊥
+    never_closes run closed =
+        let pair = closed.is_first.is_first.closes in
+        let within : run.start + run.length ≤ most_configurations = closed.within in
+        different run.start (run.start + run.length) (omega (arith, pair.goes_on)) (omega (arith, within)) (pair.at_start ∙ sym pair.at_end)
+
+    input_tells : InputOutcome input reply → reply ≡ fault_reply (Large RunLimit most_configurations)
+    input_tells (runs_on other is) = is
+    input_tells (other_signals run there differ is) = absurd (never_closes run there)
+    input_tells (traced run there same is) = absurd (never_closes run there)
+
+    parts_tell : PartsOutcome parts reply → reply ≡ fault_reply (Large RunLimit most_configurations)
+    parts_tell (part_refused fault h is) = absurd (no_part_refused fault h)
+    parts_tell (spelled other spelled_too outcome) =
+        input_tells (subst (λ (r : RunInput). InputOutcome r reply) (one_run_input once parts other input spelled_too spells) outcome)
+
 -- no part is missing
 none_missing : (bytes : List ℕ) (parts : RunParts) (head : Head) → AreParts bytes parts → LacksPart bytes head → ⊥
 none_missing bytes parts head are (lacks_program is none) = none are.program_begins.at are.program_begins.first.is_line
@@ -164,6 +188,14 @@ run_answers once bytes reply can (of_all_parts parts are outcome) =
     parts_answer once can.parts can.input can.spelled can.closes reply
     (subst (λ (p : RunParts). PartsOutcome p reply) (one_run_division bytes parts can.parts are can.are_parts) outcome)
 
+pub run_tells_limits : ReadOnce → (bytes : List ℕ) (parts : RunParts) (input : RunInput) (reply : Reply) → AreParts bytes parts →
+    SpellRunInput parts input → AreDifferent (meanings_of_input input) input.program input.rows (most_configurations + 1) →
+    RunOutcome bytes reply → reply ≡ fault_reply (Large RunLimit most_configurations)
+run_tells_limits once bytes parts input reply are spells different (missing head lacks is) = absurd (none_missing bytes parts head are lacks)
+run_tells_limits once bytes parts input reply are spells different (of_all_parts other are_too outcome) =
+    parts_tell once parts input spells different reply
+    (subst (λ (p : RunParts). PartsOutcome p reply) (one_run_division bytes other parts are_too are) outcome)
+
 -- ---- `recheck`
 
 refusal_answers : (refusal : Option Refusal) → is_yes_or_no (verdict refusal).status ≡ true
@@ -177,3 +209,10 @@ recheck_answers bytes reply can (of_parts at first is) =
     let there : reply ≡ recheck_reply bytes can.0 =
     is ∙ ap (recheck_reply bytes) (one_place bytes head_line at can.0 first can.1) in
     ap is_yes_or_no (status_of (there ∙ is_verdict can.2)) ∙ refusal_answers (refusal_of can.2)
+
+-- the reply is the one at the first line `lrat`
+pub recheck_tells : (bytes : List ℕ) (at : ℕ) (reply : Reply) → IsFirstLineAt bytes head_line at → RecheckOutcome bytes reply →
+    reply ≡ recheck_reply bytes at
+recheck_tells bytes at reply first (without_log none is) = absurd (none at first.is_line)
+recheck_tells bytes at reply first (of_parts other first_too is) =
+    is ∙ ap (recheck_reply bytes) (one_place bytes head_line other at first_too first)

@@ -1,12 +1,11 @@
 -- Programs that `synth` wrote, where they are run: no formula that is judged fails, whatever gives the interpretation.
-use Rattle.std.proofs.Common.{◌≡◌, ◌≢◌, ℕ, Bool, true, false, List, [], ◌∷◌, map, refl, ap, sym, ◌∙◌, subst, inl, inr}
-use Rattle.std.specs.Prelude.{◌⊎◌, Option, Some, None, IsTrue}
+use Rattle.std.proofs.Common.{◌≡◌, ◌≢◌, ℕ, List, [], map, ap, sym, ◌∙◌, subst, inl, inr}
+use Rattle.std.specs.Prelude.{Option, Some, None, IsTrue}
 use Rattle.std.specs.List.{list_all, AllByRecursion}
 use Rattle.sequence.proofs.Each.{each_joined, each_map, each_weaker}
 use Rattle.tsl_terms.specs.declared.names.NameKind.TheVariants.{Signal}
 use Rattle.tsl_terms.specs.Name.{Name, is_name, AreDistinct}
-use Rattle.tsl_terms.specs.FormulaTree.{FormulaTree}
-use Rattle.tsl_terms.specs.SpecTree.{SpecTree, whole_formula}
+use Rattle.tsl_terms.specs.SpecTree.{SpecTree}
 use Rattle.tsl_terms.specs.WindowTree.{window_formula_of}
 use Rattle.tsl_reader.specs.Spells.{Spells}
 use Rattle.tsl_reader.proofs.Causes.{one_spec}
@@ -34,8 +33,8 @@ use Rattle.judging_replies.specs.declared.parting.Style.{Style}
 use Rattle.judging_replies.specs.declared.parting.Style.TheVariants.{Tables, Words}
 use Rattle.judging_replies.specs.Run.{SpellsGiven, SpellsMeaning, HasGivenSignals, RunInput, SpellRunInput, given_names, given_formulas}
 use Rattle.judging_replies.specs.Run.{formulas_to_judge, judged_formulas, lasso_of, IsFirstRun, InputOutcome, runs_on, other_signals, traced}
-use Rattle.judging_replies.specs.Run.{PartsOutcome, part_refused, spelled, RunOutcome, missing, of_all_parts, most_configurations}
-use Rattle.judging_replies.specs.RunParts.{RunParts, AreParts}
+use Rattle.judging_replies.specs.Run.{part_refused, spelled, RunOutcome, missing, of_all_parts, most_configurations}
+use Rattle.judging_replies.specs.RunParts.{RunParts}
 use Rattle.flow_program.proofs.ReadingLaws.{one_reading, spelled_is_read}
 use Rattle.flow_program.proofs.Renumbered.{congruent_over_others}
 use Rattle.program_check.proofs.Accepted.{sound_windows_hold}
@@ -112,9 +111,8 @@ module _ (meant : AreMeant) (search : Search) (bytes text : List ℕ) (spec : Sp
         (windows_hold text spec written.program program names names_distinct written.spelled written.realizes read) tt
     keeps_by (Some other) there read = by is_given
       where
-        of_spec : part ≡ bytes → Keeps (Some other) names program
-        of_spec is =
-            let same : other ≡ spec = one_spec bytes other spec (subst (λ t. Spells t other) is there.1) spells in
+        of_spec : other ≡ spec → Keeps (Some other) names program
+        of_spec same =
             let here : IsReading text spec.names program names = subst (λ (s : SpecTree). IsReading text s.names program names) same read in
             let both : (written.program ≡ program) × (spec.names ≡ names) =
             one_reading text spec.names written.program program spec.names names names_distinct
@@ -124,8 +122,8 @@ module _ (meant : AreMeant) (search : Search) (bytes text : List ℕ) (spec : Sp
             (subst (λ (p : ProgramTree). Keeps (Some spec) spec.names p) both.0 keeps_with))
 
         by : IsGivenWith bytes part → Keeps (Some other) names program
-        by (inl is) = of_spec is
-        by (inr none) = absurd (there.0 none)
+        by (inl none) = absurd (there.0 none)
+        by (inr both) = of_spec (one_spec part other both.0 there.1 both.2 ∙ one_spec bytes both.0 spec both.1 spells)
 
   -- ---- its runs
 

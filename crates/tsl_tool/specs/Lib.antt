@@ -7,4 +7,6 @@ pub mod Outcome
 pub mod Promise
 pub mod Limits
 pub mod Tasks
+pub mod WrittenAutomata
+pub mod WrittenCircuits
 pub mod WrittenPrograms

@@ -1,6 +1,6 @@
 //! Laws of the definitions that the contracts cite.
 
-ghost use Rattle.std.specs.Prelude.{◌≡◌, ◌≢◌, ◌↔◌, ◌⊎◌, ℕ, List, [], Contains, false, None, IsTrue};
+ghost use Rattle.std.specs.Prelude.{◌≡◌, ◌≢◌, ◌↔◌, ◌⊎◌, ◌+◌, ℕ, List, [], Contains, false, None, IsTrue};
 ghost use Rattle.std.specs.List.{AllByRecursion};
 ghost use Rattle.command_words.specs.declared.task.ProveSizes.{ProveSizes};
 ghost use Rattle.command_words.specs.declared.task.SynthSizes.{SynthSizes};
@@ -8,7 +8,8 @@ ghost use Rattle.command_words.specs.declared.task.Task.{Task};
 ghost use Rattle.command_words.specs.declared.task.Task.TheVariants.{Synth};
 ghost use Rattle.command_words.specs.Commands.{ParsesTo};
 ghost use Rattle.generator.specs.Generated.{generated_text};
-ghost use Rattle.cnf_reader.specs.CnfText.{cnf_answer};
+ghost use Rattle.cnf_reader.specs.CnfText.{cnf_answer, too_many_variables, too_many_clauses};
+ghost use Rattle.refutation_check.specs.declared.limits.TheConstants.{MOST_VARIABLES, MOST_CLAUSES};
 ghost use Rattle.refutation_check.specs.LogText.{log_answer};
 ghost use Rattle.tsl_terms.specs.SpecTree.{SpecTree};
 ghost use Rattle.tsl_reader.specs.Spells.{Spells};
@@ -22,6 +23,7 @@ ghost use Rattle.refinement_loop.specs.Outcomes.{IsLargeFor, IsLargeAfter};
 ghost use Rattle.tsl_meaning.specs.Lasso.{Meets};
 ghost use Rattle.tsl_meaning.specs.RunLasso.{shape_of};
 ghost use Rattle.tsl_meaning.specs.RunTree.{RunTree};
+ghost use Rattle.tsl_meaning.specs.RunOf.{AreDifferent};
 ghost use Rattle.tool_ends.specs.declared.reply.Reply.{Reply};
 ghost use Rattle.tool_ends.specs.declared.status.Status.{Status};
 ghost use Rattle.tsl_tool.specs.Causes.{Causes};
@@ -35,17 +37,31 @@ ghost use Rattle.tsl_tool.specs.Promise.{Promise};
 ghost use Rattle.tsl_tool.specs.WrittenPrograms.{RunsProgramOf};
 ghost use Rattle.search_replies.specs.Prove.{IsProof, ProveOutcome};
 ghost use Rattle.tool_replies.specs.Refusals.{fault_at_limit};
+ghost use Rattle.tool_replies.specs.HeadLines.{IsFirstLineAt};
 ghost use Rattle.tool_replies.specs.Replies.{fault_reply};
 ghost use Rattle.judging_replies.specs.Check.{AreCheckParts, CheckInput, CheckOutcome, CheckParts, SpellCheckInput};
 ghost use Rattle.judging_replies.specs.Recheck.{IsAccepted, IsRefused, RecheckOutcome, parts_reply, verdict};
+ghost use Rattle.judging_replies.specs.Recheck.{head_line, cnf_part};
+ghost use Rattle.judging_replies.specs.RunParts.{RunParts, AreParts};
 ghost use Rattle.judging_replies.specs.Run.{RunInput, RunOutcome, lasso_of, judged_formulas, verdicts_of, run_reply};
+ghost use Rattle.judging_replies.specs.Run.{SpellRunInput, meanings_of_input, most_configurations};
 ghost use Rattle.exchange_replies.specs.Circuit.{CircuitOutcome};
+ghost use Rattle.exchange_replies.specs.Automaton.{IsPastFor, AutomatonOutcome};
+ghost use Rattle.exchange_replies.specs.Accepts.{AcceptsParts, AreAcceptsParts, IsAutomatonFault, AcceptsOutcome};
+ghost use Rattle.automaton_text.specs.declared.hoa_error.HoaError.{HoaError};
+ghost use Rattle.automaton_text.specs.HoaRefusals.{IsHoaRefusal};
+ghost use Rattle.tsl_report.specs.declared.fault.Fault.TheVariants.{Large};
+ghost use Rattle.tsl_report.specs.declared.fault.LimitName.{LimitName};
+ghost use Rattle.tsl_report.specs.declared.fault.LimitName.TheVariants.{Run as RunLimit, Variables as VariableLimit, Clauses as ClauseLimit};
 ghost use Rattle.tool_ends.specs.Statuses.{is_answer};
 ghost use Rattle.search_replies.specs.Synth.{SynthOutcome};
 
-use table_interp::what_is_spelled_has_a_meaning;
+use table_interp::{one_reading, what_is_spelled_has_a_meaning};
 use tool_ends::Status;
-use word_interp::what_is_spelled_has_a_meaning as what_words_spell_has_a_meaning;
+use word_interp::{
+    one_reading as one_words_reading,
+    what_is_spelled_has_a_meaning as what_words_spell_has_a_meaning,
+};
 
 /// A text spells at most one specification.
 pub fn one_specification()
@@ -87,7 +103,10 @@ pub fn searches_are_answered()
 {}
 
 /// Where a limit of the first question is passed, one of its limits is told, by its line alone; for
-/// `check` and `circuit` where a limit of the work on their specification and their program is passed.
+/// `check` and `circuit` where a limit of the work on their specification and their program is passed, and
+/// for `automaton` where one of the work on its specification is. `accepts` tells the first that its
+/// automaton passes, whatever follows it, `run` that of configurations where its run closes within none,
+/// and `recheck` that of its formula, whatever its log is.
 pub fn limits_are_told()
     ensures synth { (search : Search) (bytes : List ℕ) (spec : SpecTree) (reply : Reply) (limit : Limit) →
         Spells bytes spec → IsLargeFor spec [] search.states search.bound limit
@@ -107,7 +126,26 @@ pub fn limits_are_told()
         (limit : Limit) → AreCheckParts bytes parts → SpellCheckInput parts input
         → IsPassed input.spec input.program limit → CircuitOutcome bound bytes reply
         → (told : Limit) × IsPassed input.spec input.program told × (reply ≡ fault_reply (fault_at_limit told)) }
-{}
+    ensures automaton { (bytes : List ℕ) (spec : SpecTree) (reply : Reply) (limit : Limit) → Spells bytes spec →
+        IsPastFor spec limit → AutomatonOutcome bytes reply
+        → (told : Limit) × IsPastFor spec told × (reply ≡ fault_reply (fault_at_limit told)) }
+    ensures accepts { (bytes : List ℕ) (parts : AcceptsParts) (error : HoaError) (name : LimitName) (most : ℕ)
+        (reply : Reply) → AreAcceptsParts bytes parts → IsHoaRefusal error parts.automaton
+        → IsAutomatonFault error (Large name most) → AcceptsOutcome bytes reply → reply ≡ fault_reply (Large name most) }
+    ensures run { (bytes : List ℕ) (parts : RunParts) (input : RunInput) (reply : Reply) → AreParts bytes parts
+        → SpellRunInput parts input
+        → AreDifferent (meanings_of_input input) input.program input.rows (most_configurations + 1)
+        → RunOutcome bytes reply → reply ≡ fault_reply (Large RunLimit most_configurations) }
+    ensures recheck_variables { (bytes : List ℕ) (at : ℕ) (reply : Reply) → IsFirstLineAt bytes head_line at
+        → cnf_answer (cnf_part bytes at) ≡ too_many_variables → RecheckOutcome bytes reply
+        → reply ≡ fault_reply (Large VariableLimit MOST_VARIABLES) }
+    ensures recheck_clauses { (bytes : List ℕ) (at : ℕ) (reply : Reply) → IsFirstLineAt bytes head_line at
+        → cnf_answer (cnf_part bytes at) ≡ too_many_clauses → RecheckOutcome bytes reply
+        → reply ≡ fault_reply (Large ClauseLimit MOST_CLAUSES) }
+{
+    one_reading();
+    one_words_reading();
+}
 
 /// Where a controller of the size has an annotation within the bound without windows, `synth` does not say
 /// that there is none, and `prove` does not prove it. Within the limits of that question `synth` writes a
@@ -154,7 +192,8 @@ pub fn verdicts_are_those_of_runs()
 {}
 
 /// A program that `synth` wrote has no verdict that a formula fails, whether tables or machine words give
-/// the interpretation, where it is run with the specification that it was written from, or with none.
+/// the interpretation, where it is run with the specification that it was written from, in any text that
+/// spells it, or with none.
 pub fn written_programs_do_not_fail()
     ensures { (sizes : SynthSizes) (specification text bytes : List ℕ) (reply : Reply) →
         Promise (Synth sizes) Status.Done specification text → RunsProgramOf specification text bytes →

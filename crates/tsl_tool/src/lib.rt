@@ -76,6 +76,9 @@
 //! - `verdicts_are_those_of_logs` says that `recheck` says yes exactly where the log is accepted and
 //!   no exactly where it is refused; `verdicts_are_those_of_runs` says the same of `run` and the
 //!   formulas that it judges.
+//! - `circuits_run_as_programs` says that from the start, where its latches are false, a written circuit
+//!   makes the updates of the program's controller, one step after another. `automata_are_read` says that
+//!   `accepts` reads a written automaton, and says yes exactly where the formula fails on the loop.
 //! - Definitions cite limits as the constants of the code; `limits_are_these` says which numbers
 //!   they are.
 //!
@@ -90,11 +93,14 @@
 #![tactic(auto)]
 
 mod completeness;
+mod exchange_laws;
 mod laws;
 mod tasks;
 mod top;
 
 pub use completeness::{answers_come, inputs_get_verdicts};
+pub use exchange_laws::{automata_are_read, circuits_run_as_programs};
+pub use generator::gen_text;
 pub use laws::{
     controllers_are_not_missed, ends_have_causes, limits_are_these, limits_are_told,
     one_specification, outcomes_keep_their_promise, plain_updates_are_spelled, proofs_are_verified,
