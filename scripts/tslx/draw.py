@@ -1,7 +1,7 @@
 """`tslx draw`: a program, an environment or an automaton as a picture, in the language of Graphviz."""
 import pathlib
 import re
-from typing import Callable, Dict, Hashable, List, Optional, Tuple
+from typing import Callable, Dict, Hashable, List, Optional, Set, Tuple
 
 from .answers import Environment, read_none
 from .automata import Automaton, read_automaton
@@ -72,7 +72,8 @@ class Picture:
         self.box = box
         self.label = label
         self.titles = titles
-        self.drawn: Dict[Tuple[str, int], bool] = {}
+        self.drawn: Set[Tuple[str, int]] = set()
+        self.somewhere: Set[int] = set()
         self.moves: List[str] = []
 
     def node(self, start: int, place: str) -> List[str]:
@@ -86,7 +87,8 @@ class Picture:
                 lines.append(f'    {place}n{number} -> {place}n{self.stands[it.yes]} [label="T"];')
                 lines.append(f'    {place}n{number} -> {place}n{self.stands[it.no]} [label="F", style=dashed];')
             elif (place, number) not in self.drawn:
-                self.drawn[place, number] = True
+                self.drawn.add((place, number))
+                self.somewhere.add(number)
                 if isinstance(it, Branch):
                     lines.append(f'    {place}n{number} [label="{quoted(write_test(it.test))}", shape=ellipse];')
                     left += [(number, True), (self.stands[it.no], False), (self.stands[it.yes], False)]
@@ -113,7 +115,7 @@ class Picture:
             lines.append("  }")
         if everything:
             for number in reversed(range(len(self.program.nodes))):
-                if self.stands[number] == number and number not in {it for _, it in self.drawn}:
+                if self.stands[number] == number and number not in self.somewhere:
                     lines += self.node(number, "")
         if notes:
             lines.append(f'  also [label="{notes}", shape=note];')
