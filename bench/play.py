@@ -4,10 +4,14 @@
 The pages of some examples are loaded. By keys alone their switches are set to the truths of the tests in a run, and steps are made: the states
 and updates of the page have to be those of `tsl run`, no guarantee may be broken where its formula holds, and steps are undone. Then one plays
 by the mouse, against an environment, and from an address that has steps. With FOLDER a picture of each page is left there. Where no Chromium is
-installed (Debian's package of that name) it is passed over."""
+installed (Debian's package of that name) that is passed over.
+
+Where `node` is installed, the page's own script says of random formulas what is left of them after a step: on random loops of letters this is
+true from the next step on exactly where the formula is true from the first."""
 import json
 import os
 import pathlib
+import random
 import shutil
 import subprocess
 import sys
@@ -201,11 +205,74 @@ def play_environment(browser, folder):
     wanted("environment alone: the step", browser.steps(), [["0", "0", "", "[task <- order first]", "1"]])
 
 
+def truths(formula, letters, back):
+    """The truths of a formula of a page at each letter of a loop, whose last letter is followed by that at `back`."""
+    count = len(letters)
+    after = list(range(1, count)) + [back]
+    operator, parts = formula[0], formula[1:]
+    if operator in ("true", "false"):
+        return [operator == "true"] * count
+    if operator in ("test", "update"):
+        return [parts[0] in letter[operator + "s"] for letter in letters]
+    some = [truths(part, letters, back) for part in parts]
+    if operator == "!":
+        return [not it for it in some[0]]
+    if operator in ("&&", "||"):
+        return [(all if operator == "&&" else any)(it) for it in zip(*some)]
+    if operator == "->":
+        return [not left or right for left, right in zip(*some)]
+    if operator == "<->":
+        return [left == right for left, right in zip(*some)]
+    if operator == "X":
+        return [some[0][to] for to in after]
+    yes, no = [True] * count, [False] * count
+    # What is asked now, what goes on, and whether it may go on for ever.
+    now, on, for_ever = {"F": (some[0], yes, False), "G": (no, some[0], True), "U": (some[-1], some[0], False), "W": (some[-1], some[0], True)}.get(
+        operator, (None, None, None))
+    if operator == "R":
+        now, on, for_ever = [left and right for left, right in zip(*some)], some[1], True
+    found = [for_ever] * count
+    for _ in range(count + 1):
+        found = [now[at] or (on[at] and found[after[at]]) for at in range(count)]
+    return found
+
+
+def random_formula(chance, depth):
+    """A formula of a page over two tests and two updates."""
+    if depth == 0 or chance.random() < 0.15:
+        return chance.choice([["true"], ["false"], ["test", 0], ["test", 1], ["update", 0], ["update", 1]])
+    operator = chance.choice(["!", "X", "F", "G", "&&", "||", "->", "<->", "U", "W", "R"])
+    count = 1 if operator in "!XFG" else chance.choice([2, 3]) if operator in ("&&", "||") else 2
+    return [operator, *(random_formula(chance, depth - 1) for _ in range(count))]
+
+
+def progress(count):
+    """What the page's script leaves of random formulas."""
+    script = (HERE.parent / "scripts" / "tslx" / "play.html").read_text()
+    script = script[script.index("// ---- formulas"):script.index("// ---- steps")]
+    chance = random.Random(1)
+    cases = []
+    for _ in range(count):
+        letters = [{"tests": [it for it in (0, 1) if chance.random() < 0.5], "updates": [chance.choice([0, 1])]} for _ in range(chance.randrange(2, 6))]
+        cases.append((random_formula(chance, 4), letters, chance.randrange(1, len(letters))))
+    given = [[formula, {"tests": [it in letters[0]["tests"] for it in (0, 1)], "updates": letters[0]["updates"]}] for formula, letters, _ in cases]
+    script += "process.stdout.write(JSON.stringify(JSON.parse(require('fs').readFileSync(0)).map(([formula, letter]) => progressed(formula, letter))));"
+    said = subprocess.run(["node", "-e", script], input=json.dumps(given), stdout=subprocess.PIPE, universal_newlines=True, check=True).stdout
+    for (formula, letters, back), left in zip(cases, json.loads(said)):
+        if truths(formula, letters, back)[0] != truths(left, letters, back)[1]:
+            wanted(f"what is left of {formula} after {letters[0]}", left, "something else")
+    print(f"{count} formulas after a step: {len(failures)} failures")
+
+
 def main():
+    if shutil.which("node"):
+        progress(3000)
+    else:
+        print("formulas passed over, since node is not installed")
     program = shutil.which("chromium") or shutil.which("chromium-browser")
     if not program:
-        print("passed over, since chromium is not installed")
-        return
+        print("pages passed over, since chromium is not installed")
+        sys.exit(1 if failures else 0)
     with tempfile.TemporaryDirectory() as name:
         folder = pathlib.Path(name)
         browser = Browser(program, folder / "kept")

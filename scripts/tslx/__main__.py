@@ -107,6 +107,10 @@ def main() -> int:
     except BrokenPipeError:
         os.dup2(os.open(os.devnull, os.O_WRONLY), 1)
         status = 141
+    except OSError as error:
+        os.dup2(os.open(os.devnull, os.O_WRONLY), 1)
+        tell(f"tslx: cannot write: {(error.strerror or str(error)).lower()}")
+        status = 7
     return status
 
 
