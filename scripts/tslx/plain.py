@@ -25,11 +25,11 @@ def main(words: List[str]) -> int:
         return told(answer, None)
     gathered = gather(files)
     # Verdicts are a line; all else goes through as it comes.
-    if command in ("check", "circuit"):
+    if command in ("check", "circuit", "recheck"):
         answer = asking.ask(asked, gathered.data)
         write(answer.out)
         if answer.out.startswith("refused "):
-            tell_refusal(answer.out.split(), gathered, given)
+            (tell_step if command == "recheck" else tell_refusal)(answer.out.split(), gathered, given)
     else:
         answer = asking.ask_through(asked, gathered.data)
     return told(answer, gathered)
@@ -65,6 +65,30 @@ def tell_refusal(words: List[str], gathered: Gathered, given: Dict[str, str]) ->
         return
     file, own = gathered.place(start + line - 1)
     tell(f"{file}:{own}: {said}\n  {lines[start + line - 2]}")
+
+
+def tell_step(words: List[str], gathered: Gathered, _: Dict[str, str]) -> None:
+    """Tells what a verdict of `recheck` says, with the line of the log that is meant."""
+    if words[1] == "unfinished":
+        tell("  the log ends, and no step of it has the empty clause")
+        return
+    lines = gathered.text.split("\n")
+    for line in range(lines.index("lrat") + 1, len(lines)):
+        said = lines[line].split()
+        if said[:1] == [words[2]] and said[1:2] != ["d"]:
+            file, own = gathered.place(line + 1)
+            tell(f"{file}:{own}: {step_sentence(words, said)}\n  {lines[line]}")
+            return
+
+
+def step_sentence(words: List[str], said: List[str]) -> str:
+    """What is wrong about a step of a log."""
+    if words[1] == "line":
+        return f"step {words[2]} has a number that does not rise, a variable that the formula lacks, or a literal with its negation"
+    hints = said[said.index("0", 1) + 1:-1]
+    if int(words[3]) > len(hints):
+        return f"the hints of step {words[2]} end, and none of their clauses became false"
+    return f"hint {hints[int(words[3]) - 1]} of step {words[2]} shows nothing: its clause is not there, or is true, or more than one literal of it is open"
 
 
 def sentence(kind: str, number: str, program: "Program", given: Dict[str, str]) -> str:
