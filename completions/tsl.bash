@@ -18,7 +18,7 @@ _tsl() {
         tables) offered='--domain --words' ;;
         core) offered='--states --env-states --env-bound --depth --rounds --budget' ;;
         simplify) offered='--bound --most' ;;
-        split) offered='--states --bound' ;;
+        split) offered='--most --jobs' ;;
         code) offered='--name --bound' ;;
         play) offered='--title' ;;
         wave) offered='--title' ;;
