@@ -5,6 +5,9 @@ import os
 import signal
 import sys
 
+if sys.version_info < (3, 8):
+    sys.stderr.write("tslx: this python3 is older than 3.8, which tslx takes; tsl itself takes none\n")
+    sys.exit(125)
 sys.dont_write_bytecode = True
 sys.path[0] = os.path.dirname(os.path.dirname(os.path.abspath(__file__)))
 
