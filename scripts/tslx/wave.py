@@ -115,7 +115,7 @@ def picture(it: Shown, title: str) -> str:
     left = int(max(len(name) for name, _, _ in rows) * WIDE) + 22
     top, end = 54, left + wide * len(run.steps)
     bottom = top + ROW * len(rows)
-    below = [(f"window {i} fails", "bad") for i, holds in enumerate(run.windows) if not holds]
+    below = [(f"window {i} holds", "") if holds else (f"window {i} fails", "bad") for i, holds in enumerate(run.windows)]
     if run.formula is not None:
         below.append(("formula holds", "") if run.formula else ("formula fails", "bad"))
     repeats = f"steps {run.loop_start} to {run.loop_start + run.loop_length - 1} repeat" if run.loop_length > 1 else f"step {run.loop_start} repeats"
