@@ -103,13 +103,18 @@ def ask_through(words: Sequence[str], text: Union[str, bytes]) -> Answer:
     return Answer(ended(it.returncode), "", err.decode("latin-1"))
 
 
+def end_running() -> None:
+    """Ends the questions that are asked now; others may start."""
+    for it in list(running):
+        if it.poll() is None:
+            it.kill()
+            it.wait()
+
+
 @atexit.register
 def stop_all() -> None:
     """Ends the questions that are still asked, and lets none start."""
     global stopped
     with lock:
         stopped = True
-    for it in list(running):
-        if it.poll() is None:
-            it.kill()
-            it.wait()
+    end_running()

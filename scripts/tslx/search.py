@@ -1,4 +1,5 @@
 """`tslx search`: sizes that grow, until there is a program or an environment that wins."""
+import time
 from typing import TYPE_CHECKING, Dict, List, Optional, Sequence, Tuple
 
 from . import asking
@@ -60,7 +61,10 @@ class Questions:
         """Ends what is still asked."""
         for it in self.asked.values():
             it.cancel()
-        asking.stop_all()
+        # One that was about to start is ended once it has started.
+        while not all(it.done() for it in self.asked.values()):
+            asking.end_running()
+            time.sleep(0.01)
         if self.jobs > 1:
             self.pool.shutdown(wait=True)
 

@@ -234,8 +234,6 @@ def searched(name: str, text: str, most: int, jobs: int) -> Tuple[int, str]:
             status = Search(questions, gathered, most).go()
     finally:
         questions.end()
-    # All questions of this search have ended, so the next one may ask.
-    asking.stopped = False
     return status, out.getvalue()
 
 
