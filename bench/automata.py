@@ -8,7 +8,7 @@ import tempfile
 
 from measuring import HERE, measured
 
-CRATES = ["sequence", "loop_shape", "ltl_formula", "obligations", "cobuchi_automata"]
+CRATES = ["base_library", "loop_shape", "ltl_formula", "obligations", "cobuchi_automata"]
 TIMED = "automata_times"
 RESPONSES = range(2, 7)
 NOISE = 0.0005  # seconds, below which neither growth nor ratio says anything
@@ -19,7 +19,7 @@ MAIN = r"""
 
 use cobuchi_automata::build;
 use ltl_formula::{Ltl, LtlList, negate};
-use sequence::NoMemory;
+use base_library::NoMemory;
 use std::alloc::Global;
 use std::process::ExitCode;
 use std::rt::Env;
@@ -102,7 +102,7 @@ def built(folder):
     for name in CRATES:
         shutil.copytree(root / "crates" / name, crates / name, ignore=shutil.ignore_patterns("out", "must-fail"))
     lines = [line for line in (root / "crates.txt").read_text().splitlines() if line.split(":")[0] in CRATES]
-    (folder / "crates.txt").write_text("\n".join([*lines, f"{TIMED}: sequence ltl_formula cobuchi_automata", ""]))
+    (folder / "crates.txt").write_text("\n".join([*lines, f"{TIMED}: base_library ltl_formula cobuchi_automata", ""]))
     source = crates / TIMED / "src"
     source.mkdir(parents=True)
     (source / "main.rt").write_text(MAIN.lstrip())

@@ -12,7 +12,7 @@ MOST_POSITIONS = 65536
 PREDICATES = 2048  # as many as the plain program has
 BETWEEN = ["U", "->", "||", "&&", "R"]
 BEFORE = ["X", "F", "!", "G"]
-VERDICT = ["judging_replies::meaning::Meaning::judge"]
+VERDICT = ["checking_commands::meaning::Meaning::judge"]
 
 
 def formula(family, number):

@@ -9,11 +9,11 @@ use Rattle.std.proofs.lemmas.Bool.{cases_lt, ne_eqb, eq-eqb}
 use Rattle.std.proofs.lemmas.List.{length-map, map-set, map_push}
 use Rattle.std.proofs.lemmas.List.Elements.{recursion_from_All}
 use Rattle.std.proofs.lemmas.Option.{slice_get-map, slice_get_past, slice_get_read, get_or_from_slice_get}
-use Rattle.sequence.specs.Numbers.{numbers_from}
-use Rattle.sequence.proofs.Each.{each_contained, each_map}
-use Rattle.sequence.proofs.Numbers.{numbers_more, numbers_at, length-numbers}
-use Rattle.sequence.proofs.Passes.{filter_push}
-use Rattle.sequence.proofs.Places.{take_next}
+use Rattle.base_library.specs.Numbers.{numbers_from}
+use Rattle.base_library.proofs.Each.{each_contained, each_map}
+use Rattle.base_library.proofs.Numbers.{numbers_more, numbers_at, length-numbers}
+use Rattle.base_library.proofs.Passes.{filter_push}
+use Rattle.base_library.proofs.Places.{take_next}
 use Rattle.cobuchi_automata.specs.Automata.{EdgeTree}
 use Rattle.cobuchi_automata.specs.Edges.{edge_tree, edge_trees, IsBetween}
 use Rattle.cobuchi_automata.specs.declared.automaton.Edge.{Edge}

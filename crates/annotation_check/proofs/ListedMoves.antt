@@ -4,7 +4,7 @@ use Rattle.std.specs.Prelude.{Result, IfOk, Err, Ok}
 use Rattle.std.specs.List.Sorted.{IsPermutation}
 use Rattle.std.proofs.lemmas.List.Sorted.{IsPermutation-map, IsPermutation-sym, Contains-permutation}
 use Rattle.std.proofs.lemmas.Option.{none-some, same_Some}
-use Rattle.sequence.proofs.Places.{slice_get_push}
+use Rattle.base_library.proofs.Places.{slice_get_push}
 use Rattle.machines.specs.Moves.{MoveTree}
 use Rattle.machines.specs.MachineView.{move_tree}
 use Rattle.machines.specs.declared.moves.Move.{Move}

@@ -6,7 +6,7 @@ use Rattle.std.proofs.Math.Nat.{mul-le-mul_right}
 use Rattle.std.proofs.Math.Seq.{take-nil}
 use Rattle.std.proofs.lemmas.List.{drop_all, take-append-drop}
 use Rattle.std.proofs.lemmas.Option.{none-some, same_Some, slice_get-map, slice_get_past, option_and_then_some}
-use Rattle.sequence.proofs.Each.{each_from_places, each_contained, each_left, each_right}
+use Rattle.base_library.proofs.Each.{each_from_places, each_contained, each_left, each_right}
 use Rattle.letter_space.specs.SpaceTree.{SpaceTree}
 use Rattle.machines.specs.MachineTree.{EntryTree, ControllerTree, IsController, EnvironmentTree, IsEnvironment, successor_at}
 use Rattle.machines.specs.Moves.{MoveTree, entries_of, moves_from, controller_moves, move_under, environment_move, environment_moves}

@@ -3,7 +3,7 @@ use Rattle.std.proofs.Common.{◌≡◌, ◌∙◌, ℕ, ◌+◌, ◌≤◌, ◌
 use Rattle.std.specs.Prelude.{cond}
 use Rattle.std.proofs.lemmas.Bool.{eqb-true}
 use Rattle.std.proofs.lemmas.Option.{none-some, same_Some}
-use Rattle.sequence.proofs.Each.{each_at, each_contained}
+use Rattle.base_library.proofs.Each.{each_at, each_contained}
 use Rattle.ltl_formula.specs.Cubes.{cube_matches}
 use Rattle.ltl_formula.specs.LtlTree.{LtlTree}
 use Rattle.cobuchi_automata.specs.Automata.{StateTree, EdgeTree, untils_of, start_state, state_after, IsReached, IsOfChoice, IsAutomaton}

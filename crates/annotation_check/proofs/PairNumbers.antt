@@ -32,7 +32,7 @@ use Rattle.std.proofs.Common.{
 use Rattle.std.proofs.lemmas.Bool.{lt-ltb, ltb-true, ltb-false, cases_eq}
 use Rattle.std.proofs.lemmas.Nat.{same_from_place}
 use Rattle.std.proofs.lemmas.Option.{slice_get-get_or}
-use Rattle.sequence.proofs.Places.{slice_get_set, slice_get_set_same}
+use Rattle.base_library.proofs.Places.{slice_get_set, slice_get_set_same}
 use Rattle.annotation_check.specs.Annotations.{IsAtLeast, number_of_pair}
 use Rattle.annotation_check.specs.internal.Higher.{is_higher}
 

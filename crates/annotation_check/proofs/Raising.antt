@@ -5,7 +5,7 @@ use Rattle.std.proofs.Math.ListN.{length-set}
 use Rattle.std.proofs.lemmas.List.Elements.{Contains-append_left, Contains-push, Contains-push_cases}
 use Rattle.std.proofs.lemmas.List.Sums.{sum_by-set}
 use Rattle.std.proofs.lemmas.Nat.{mul-add-lt}
-use Rattle.sequence.proofs.Options.{one_value}
+use Rattle.base_library.proofs.Options.{one_value}
 use Rattle.annotation_check.specs.declared.growing.Rise.{Rise}
 use Rattle.annotation_check.specs.Annotations.{IsAtLeast}
 use Rattle.annotation_check.specs.internal.Higher.{is_higher}

@@ -3,8 +3,8 @@ use Rattle.std.proofs.Common.{◌≡◌, ℕ, ◌+◌, ◌≤◌, List, [], ◌�
 use Rattle.std.proofs.Common.{add-one, sym, subst}
 use Rattle.std.specs.List.{AllByRecursion}
 use Rattle.std.proofs.lemmas.List.{take_all}
-use Rattle.sequence.proofs.Each.{each_joined, each_contained, each_weaker}
-use Rattle.sequence.proofs.Places.{take_next}
+use Rattle.base_library.proofs.Each.{each_joined, each_contained, each_weaker}
+use Rattle.base_library.proofs.Places.{take_next}
 use Rattle.annotation_check.specs.declared.growing.Rise.{Rise}
 use Rattle.annotation_check.specs.declared.stepping.Step.{Step}
 use Rattle.annotation_check.specs.Annotations.{IsAtLeast}

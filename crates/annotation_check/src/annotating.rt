@@ -14,7 +14,7 @@ use crate::pairing::{controller_pairs, environment_pairs};
 use cobuchi_automata::Automaton;
 use letter_space::Space;
 use machines::{Controller, Environment};
-use sequence::{NoMemory, Sequence};
+use base_library::{NoMemory, Sequence};
 use std::alloc::Global;
 
 /// Numbers of pairs of a machine's state and an automaton's state.

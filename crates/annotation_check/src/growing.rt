@@ -13,7 +13,7 @@ use crate::listing::Listing;
 use crate::stepping::{KeptSteps, Step, steps_of};
 use cobuchi_automata::Edge;
 use machines::Move;
-use sequence::NoMemory;
+use base_library::NoMemory;
 use std::alloc::Global;
 
 /// A number that a pair of states gets.

@@ -5,7 +5,7 @@ ghost use Rattle.machines.specs.MachineView.{move_tree};
 ghost use Rattle.annotation_check.specs.internal.Listings.{IsMoveListing, IsRunEnd, AreRunEnds};
 
 use machines::Move;
-use sequence::NoMemory;
+use base_library::NoMemory;
 use std::alloc::Global;
 
 /// Moves by their letters, those to one state side by side.

@@ -1,7 +1,7 @@
 //! Moves and edges by the states that they leave.
 
 ghost use Rattle.std.specs.Prelude.{◌≡◌, ◌<◌, ◌++◌, ◌∷◌, ℕ, [], map, length, vec_len, Contains, IfOk, OnOk};
-ghost use Rattle.sequence.specs.Numbers.{numbers_from};
+ghost use Rattle.base_library.specs.Numbers.{numbers_from};
 ghost use Rattle.cobuchi_automata.specs.Edges.{edge_tree, edge_trees};
 ghost use Rattle.letter_space.specs.SpaceView.{space_tree};
 ghost use Rattle.machines.specs.MachineView.{controller_tree, environment_tree};
@@ -15,7 +15,7 @@ use crate::growing::Pairs;
 use cobuchi_automata::{Automaton, Edge};
 use letter_space::Space;
 use machines::{Controller, Environment, Move};
-use sequence::NoMemory;
+use base_library::NoMemory;
 use std::alloc::Global;
 
 /// The pairs of a controller's and an automaton's states, with a bound on their numbers.

@@ -11,7 +11,7 @@ ghost use Rattle.annotation_check.specs.internal.Steps.{IsStepOf, AreSteps};
 use crate::listing::Listing;
 use cobuchi_automata::Edge;
 use lane_planes::{first_bit, matching};
-use sequence::NoMemory;
+use base_library::NoMemory;
 use std::alloc::Global;
 
 /// A pair of states after another one, and whether the edge to it is rejecting.

@@ -8,7 +8,7 @@ use Rattle.automaton_text.specs.HoaLines.{edge_step, state_step, end_step, body_
 use Rattle.automaton_text.specs.HoaView.{kept, kept_step}
 use Rattle.automaton_text.proofs.BitLines.{end_mapped}
 use Rattle.automaton_text.proofs.LiteralLines.{not_first}
-use Rattle.sequence.proofs.Options.{some_is, none_is}
+use Rattle.base_library.proofs.Options.{some_is, none_is}
 
 pub step_ended : (s : State) (bytes : List ℕ) → s.ended ≡ true → kept_step s bytes ≡ None
 step_ended s bytes h = ap (λ b. option_map kept (step_at b (slice_get header s.passed) s bytes)) h

@@ -2,7 +2,7 @@
 use Rattle.std.proofs.Common.{◌≡◌, ℕ, true, List, [], ◌∷◌, ◌++◌, refl, sym, ap, subst, ◌∙◌, append_assoc, append-nil}
 use Rattle.std.specs.List.{list_all}
 use Rattle.std.proofs.lemmas.Bool.{and_from}
-use Rattle.sequence.proofs.Passes.{list_all_joined}
+use Rattle.base_library.proofs.Passes.{list_all_joined}
 use Rattle.tsl_text.specs.Written.{is_line, text_of_lines}
 use Rattle.line_formats.specs.Machine.{IsText, IsFirstWrong}
 use Rattle.line_formats.proofs.MachineLaws.{lines_begin, all_front, text_append}

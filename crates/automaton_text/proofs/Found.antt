@@ -4,7 +4,7 @@ use Rattle.std.specs.Prelude.{IfOk, IfErr, if◌then◌else◌}
 use Rattle.std.specs.List.{AllByRecursion}
 use Rattle.std.proofs.lemmas.Bool.{and_from, cond_both, le-leb}
 use Rattle.std.proofs.lemmas.Result.{IfErr-at_err}
-use Rattle.sequence.proofs.Each.{each_weaker, each_unmapped}
+use Rattle.base_library.proofs.Each.{each_weaker, each_unmapped}
 use Rattle.std.proofs.lemmas.List.Elements.{All-from_recursion}
 use Rattle.line_formats.specs.Machine.{IsFirstWrong}
 use Rattle.letter_space.specs.declared.limits.TheConstants.{MOST_BITS}

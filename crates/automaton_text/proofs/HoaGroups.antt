@@ -6,9 +6,9 @@ use Rattle.std.specs.List.{AllByRecursion}
 use Rattle.std.proofs.lemmas.Bool.{ne_eqb, eq-eqb}
 use Rattle.std.proofs.lemmas.Grind.{flat_map-append}
 use Rattle.std.proofs.lemmas.List.{map-append}
-use Rattle.sequence.specs.Numbers.{numbers_from}
-use Rattle.sequence.proofs.Numbers.{numbers_more}
-use Rattle.sequence.proofs.Passes.{filter_push}
+use Rattle.base_library.specs.Numbers.{numbers_from}
+use Rattle.base_library.proofs.Numbers.{numbers_more}
+use Rattle.base_library.proofs.Passes.{filter_push}
 use Rattle.cobuchi_automata.specs.Automata.{EdgeTree}
 use Rattle.annotation_check.specs.Annotations.{edges_from}
 use Rattle.automaton_text.specs.HoaText.{edge_text, grouped, state_text, state_lines}

@@ -4,7 +4,7 @@ use Rattle.std.proofs.Common.{Option, Some, None, Err, slice_get, refl, sym, ap,
 use Rattle.std.specs.Prelude.{option_and_then, if◌then◌else◌}
 use Rattle.std.specs.List.{list_all}
 use Rattle.std.proofs.lemmas.Bool.{and_from, lt-ltb, eq-eqb, cases_lt}
-use Rattle.sequence.proofs.Passes.{passes_at}
+use Rattle.base_library.proofs.Passes.{passes_at}
 use Rattle.tsl_text.specs.Lines.{lines_from}
 use Rattle.tsl_text.specs.Written.{is_line}
 use Rattle.line_formats.specs.Format.{fits}

@@ -7,8 +7,8 @@ use Rattle.std.specs.List.{list_all, AllByRecursion}
 use Rattle.std.proofs.lemmas.Bool.{and_parts, eqb-true, ltb-true, cases_lt}
 use Rattle.std.proofs.lemmas.Nat.{pow_pos}
 use Rattle.std.proofs.lemmas.Option.{slice_get-map, slice_get_within}
-use Rattle.sequence.proofs.Each.{each_joined, each_weaker}
-use Rattle.sequence.proofs.Places.{take_next}
+use Rattle.base_library.proofs.Each.{each_joined, each_weaker}
+use Rattle.base_library.proofs.Places.{take_next}
 use Rattle.tsl_text.specs.Written.{text_of_lines}
 use Rattle.tsl_text.specs.Lines.{lines_from}
 use Rattle.line_formats.specs.Format.{Format, Value, fits}

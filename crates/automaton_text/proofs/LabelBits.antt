@@ -10,10 +10,10 @@ use Rattle.std.proofs.lemmas.Nat.{or_lt, pow_below}
 use Rattle.std.proofs.lemmas.Nat.Bits.{bit_at_and, bit_at_or, bit_at-lt, bit_at-zero, bit_at_above, same_from_bits}
 use Rattle.std.proofs.Math.Bool.{or-false, or_assoc, and-true, and-false}
 use Rattle.std.proofs.Math.Seq.{drop-cons}
-use Rattle.sequence.specs.Numbers.{numbers_from, is_among}
-use Rattle.sequence.proofs.Booleans.{same_tests}
-use Rattle.sequence.proofs.Numbers.{among_filter, among_numbers}
-use Rattle.sequence.proofs.Passes.{list_any-map}
+use Rattle.base_library.specs.Numbers.{numbers_from, is_among}
+use Rattle.base_library.proofs.Booleans.{same_tests}
+use Rattle.base_library.proofs.Numbers.{among_filter, among_numbers}
+use Rattle.base_library.proofs.Passes.{list_any-map}
 use Rattle.ltl_formula.specs.Cubes.{has_bit, IsWithin}
 use Rattle.letter_space.specs.Letters.{with_bit}
 use Rattle.letter_space.proofs.LetterBits.{has_bit_more}

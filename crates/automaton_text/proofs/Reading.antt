@@ -9,7 +9,7 @@ use Rattle.std.proofs.lemmas.List.Elements.{All-from_recursion}
 use Rattle.automaton_text.specs.declared.literals.Literal.{Literal}
 use Rattle.automaton_text.specs.HoaView.{literal_tree, literal_trees}
 use Rattle.automaton_text.proofs.LabelBits.{rise_parts}
-use Rattle.sequence.proofs.Options.{some_mapped}
+use Rattle.base_library.proofs.Options.{some_mapped}
 use Rattle.line_formats.specs.Format.{Value}
 use Rattle.cobuchi_automata.specs.Edges.{edge_trees}
 use Rattle.automaton_text.specs.HoaLines.{PartValue, bits_line, edge_line, line_value, quoted_names}

@@ -4,8 +4,8 @@ use Rattle.std.proofs.Common.{append_assoc, append-nil, add-one, codes}
 use Rattle.std.specs.Prelude.{filter, flat_map, decimal, if◌then◌else◌}
 use Rattle.std.proofs.lemmas.Grind.{flat_map-append}
 use Rattle.std.proofs.lemmas.List.{length-map, length-append}
-use Rattle.sequence.specs.Numbers.{numbers_from}
-use Rattle.sequence.proofs.Lists.{written_step}
+use Rattle.base_library.specs.Numbers.{numbers_from}
+use Rattle.base_library.proofs.Lists.{written_step}
 use Rattle.tsl_text.specs.Written.{text_of_lines}
 use Rattle.tsl_terms.specs.Name.{Name}
 use Rattle.term_text.specs.TermText.{probe_text}

@@ -6,10 +6,10 @@ use Rattle.std.specs.Prelude.{option_and_then, flat_map, decimal, if◌then◌el
 use Rattle.std.specs.List.{list_all, AllByRecursion}
 use Rattle.std.specs.Char.{is_ascii_digit}
 use Rattle.std.proofs.lemmas.Bool.{and_parts, and_from, or_left, or_right, leb-true, le-leb, lt-ltb, eqb-true}
-use Rattle.sequence.specs.Numbers.{numbers_from}
-use Rattle.sequence.proofs.Each.{each_filtered, each_map}
-use Rattle.sequence.proofs.Numbers.{numbers_below}
-use Rattle.sequence.proofs.Passes.{list_all_weaker, list_all_joined}
+use Rattle.base_library.specs.Numbers.{numbers_from}
+use Rattle.base_library.proofs.Each.{each_filtered, each_map}
+use Rattle.base_library.proofs.Numbers.{numbers_below}
+use Rattle.base_library.proofs.Passes.{list_all_weaker, list_all_joined}
 use Rattle.tsl_text.specs.Written.{is_line}
 use Rattle.tsl_text.specs.Lines.{lines_from}
 use Rattle.tsl_text.proofs.NumberLaws.{decimal_digits}

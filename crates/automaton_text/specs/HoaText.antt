@@ -3,7 +3,7 @@
 use Rattle.std.specs.Prelude.{◌≡◌, ℕ, ◌<◌, ◌≤◌, ◌^◌, Bool, List, [], ◌∷◌, ◌++◌, length, map, filter, flat_map, codes, decimal}
 use Rattle.std.specs.Prelude.{IsTrue, if◌then◌else◌}
 use Rattle.std.specs.List.{list_all, AllByRecursion}
-use Rattle.sequence.specs.Numbers.{numbers_from}
+use Rattle.base_library.specs.Numbers.{numbers_from}
 use Rattle.tsl_text.specs.Written.{text_of_lines}
 use Rattle.line_formats.specs.Format.{Bytes, has}
 use Rattle.ltl_formula.specs.Cubes.{has_bit, IsWithin}

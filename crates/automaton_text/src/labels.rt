@@ -1,12 +1,12 @@
 //! The labels of edges: which bits a cube asks for.
 
 ghost use Rattle.std.specs.Prelude.{◌≡◌, ◌≤◌, ◌<◌, ◌++◌, ◌∷◌, ◌-◌, suc, [], map, filter, flat_map, codes, decimal, IfSome, IfNone, OnOk, if◌then◌else◌};
-ghost use Rattle.sequence.specs.Numbers.{numbers_from};
+ghost use Rattle.base_library.specs.Numbers.{numbers_from};
 ghost use Rattle.ltl_formula.specs.Cubes.{has_bit};
 ghost use Rattle.automaton_text.specs.HoaText.{literal_text, bits_asked, joined};
 
 use ltl_formula::Cube;
-use sequence::NoMemory;
+use base_library::NoMemory;
 use tsl_text::{put_bytes, put_number};
 
 /// Whether a number has a bit.

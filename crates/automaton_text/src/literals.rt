@@ -8,7 +8,7 @@ ghost use Rattle.automaton_text.specs.HoaView.{literal_tree, literal_trees, lite
 
 use line_formats::{first_number, past};
 use ltl_formula::Cube;
-use sequence::NoMemory;
+use base_library::NoMemory;
 use std::alloc::Global;
 
 /// A bit, and whether it is to be set.

@@ -16,7 +16,7 @@ use crate::literals::{Literal, cube_of, literals_in, rise};
 use cobuchi_automata::{Automaton, Edge, MOST_AUTOMATON_EDGES, MOST_AUTOMATON_STATES};
 use letter_space::MOST_BITS;
 use line_formats::{LastLine, LineReader, TextError, read_text};
-use sequence::{NoMemory, Sequence};
+use base_library::{NoMemory, Sequence};
 use std::alloc::Global;
 
 /// An automaton, and of how many bits its edges ask.

@@ -2,7 +2,7 @@
 
 ghost use Rattle.std.specs.Prelude.{◌≡◌, ◌≤◌, ◌++◌, ◌∷◌, [], length, map, flat_map, decimal, codes, IsTrue, IfOk, OnOk};
 ghost use Rattle.std.specs.List.{list_all};
-ghost use Rattle.sequence.specs.Numbers.{numbers_from};
+ghost use Rattle.base_library.specs.Numbers.{numbers_from};
 ghost use Rattle.tsl_text.specs.Written.{text_of_lines};
 ghost use Rattle.tsl_terms.specs.TermTree.{term_tree, probe_tree};
 ghost use Rattle.term_text.specs.TermText.{probe_text, update_text, is_held, term_is_held, probe_is_held};
@@ -20,7 +20,7 @@ use crate::labels::put_label;
 use annotation_check::edges_by_state;
 use cobuchi_automata::{Automaton, Edge};
 use letter_space::{Controlled, Space};
-use sequence::NoMemory;
+use base_library::NoMemory;
 use std::alloc::Global;
 use term_text::{put_probe, put_update};
 use tsl_terms::{Names, Probe, Term};

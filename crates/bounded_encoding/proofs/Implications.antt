@@ -4,8 +4,8 @@ use Rattle.std.proofs.Common.{refl, sym, ap, arith, leb}
 use Rattle.std.specs.Prelude.{nat_le}
 use Rattle.std.proofs.lemmas.Bool.{false≢true, leb-true, le-leb, false_from_ne_true}
 use Rattle.std.proofs.lemmas.List.Folds.{list_any-append}
-use Rattle.sequence.proofs.Passes.{list_any-map, list_any_place, list_any_contained}
-use Rattle.sequence.proofs.Places.{contains_at}
+use Rattle.base_library.proofs.Passes.{list_any-map, list_any_place, list_any_contained}
+use Rattle.base_library.proofs.Places.{contains_at}
 use Rattle.clause_core.specs.Literals.{Lit}
 use Rattle.clause_core.specs.Clauses.{is_true, meets, meets_all}
 use Rattle.bounded_encoding.specs.ClauseLists.{below}

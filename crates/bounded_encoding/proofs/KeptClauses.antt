@@ -1,7 +1,7 @@
 -- Clauses in order, and without those that have a pair, are met by the same assignments.
 use Rattle.std.proofs.Common.{◌≡◌, ◌∙◌, ℕ, Bool, true, false, not, ◌&&◌, cond, List, [], ◌∷◌, refl, sym, ap}
 use Rattle.std.specs.List.{list_any, list_all}
-use Rattle.sequence.proofs.Booleans.{same_tests}
+use Rattle.base_library.proofs.Booleans.{same_tests}
 use Rattle.clause_core.specs.Literals.{Lit, negation, has}
 use Rattle.clause_core.specs.Clauses.{in_order, has_pair, is_true, meets, meets_all}
 use Rattle.clause_core.proofs.Sets.{any_has, any_from_has, has-in_order, pair_from}

@@ -4,7 +4,7 @@ use Rattle.std.proofs.Common.{Option, None, Some, option_and_then, sym, ap, subs
 use Rattle.std.specs.List.{prefix_len, range_with_len}
 use Rattle.std.proofs.lemmas.Bool.{cases_eq}
 use Rattle.std.proofs.lemmas.Option.{none-some, same_Some}
-use Rattle.sequence.proofs.Places.{slice_get_one}
+use Rattle.base_library.proofs.Places.{slice_get_one}
 use Rattle.machines.specs.MachineTree.{cell_at}
 use Rattle.annotation_check.specs.Annotations.{IsAtLeast, number_of_pair}
 use Rattle.bounded_encoding.specs.Reading.{one_less}

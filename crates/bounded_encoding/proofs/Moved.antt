@@ -4,7 +4,7 @@ use Rattle.std.specs.List.{AllByRecursion}
 use Rattle.std.proofs.lemmas.List.{map_more, length-map, length-take-le, take_all}
 use Rattle.std.proofs.lemmas.List.Elements.{All-from_recursion}
 use Rattle.std.proofs.Math.Seq.{set-append_seam}
-use Rattle.sequence.proofs.Each.{each_map, each_weaker}
+use Rattle.base_library.proofs.Each.{each_map, each_weaker}
 use Rattle.ltl_formula.specs.Cubes.{has_bit}
 use Rattle.clause_core.specs.Literals.{Lit}
 use Rattle.cobuchi_automata.specs.Automata.{EdgeTree}

@@ -4,7 +4,7 @@ use Rattle.std.specs.Prelude.{nat_le}
 use Rattle.std.specs.List.{AllByRecursion}
 use Rattle.std.proofs.lemmas.Bool.{true≢false, false≢true, false_from_ne_true, eqb-true}
 use Rattle.std.proofs.lemmas.Nat.{div-mul-add, mod-mul-add}
-use Rattle.sequence.proofs.Each.{each_map, each_weaker}
+use Rattle.base_library.proofs.Each.{each_map, each_weaker}
 use Rattle.ltl_formula.specs.Cubes.{has_bit}
 use Rattle.clause_core.specs.Literals.{Lit, negation}
 use Rattle.clause_core.specs.Clauses.{in_order, has_pair}

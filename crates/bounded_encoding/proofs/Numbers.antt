@@ -4,7 +4,7 @@ use Rattle.std.proofs.Common.{length-append}
 use Rattle.std.specs.List.{flat_map, range_with_len}
 use Rattle.std.proofs.Math.Nat.{mul_assoc}
 use Rattle.std.proofs.lemmas.List.FromFn.{length-map-range_with_len}
-use Rattle.sequence.proofs.Places.{slice_get-front, slice_get-append, slice_get_one}
+use Rattle.base_library.proofs.Places.{slice_get-front, slice_get-append, slice_get_one}
 use Rattle.bounded_encoding.specs.Question.{QuestionTree}
 use Rattle.bounded_encoding.specs.ClauseLists.{below}
 use Rattle.bounded_encoding.specs.Variables.{Variable, chooses, goes_to, is_numbered, valuations_of, choices_in_all, before_next}

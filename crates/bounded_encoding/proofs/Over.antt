@@ -3,7 +3,7 @@ use Rattle.std.proofs.Common.{◌≡◌, ◌<◌, ◌≤◌, ◌+◌, ◌-◌, �
 use Rattle.std.specs.Prelude.{nat_le}
 use Rattle.std.specs.List.{flat_map, range_with_len, AllByRecursion}
 use Rattle.std.proofs.lemmas.List.Elements.{All-from_recursion}
-use Rattle.sequence.proofs.Each.{each_map, each_weaker}
+use Rattle.base_library.proofs.Each.{each_map, each_weaker}
 use Rattle.ltl_formula.specs.Cubes.{has_bit}
 use Rattle.clause_core.specs.Literals.{Lit}
 use Rattle.clause_core.specs.Clauses.{IsOver, in_order, has_pair}

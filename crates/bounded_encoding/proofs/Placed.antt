@@ -4,7 +4,7 @@ use Rattle.std.specs.List.{AllByRecursion}
 use Rattle.std.proofs.lemmas.List.{length-map}
 use Rattle.std.proofs.lemmas.List.Elements.{All-from_recursion}
 use Rattle.std.proofs.lemmas.Bool.{and_parts, eqb-true}
-use Rattle.sequence.proofs.Each.{each_unmapped}
+use Rattle.base_library.proofs.Each.{each_unmapped}
 use Rattle.letter_space.specs.SpaceTree.{ControlledTree, choice_count, bits_follow}
 use Rattle.letter_space.specs.ControlledView.{controlled_tree}
 use Rattle.letter_space.specs.declared.controlled.Controlled.{Controlled}

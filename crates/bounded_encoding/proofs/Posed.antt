@@ -2,7 +2,7 @@
 use Rattle.std.proofs.Common.{ℕ, ◌≤◌, sym, ◌∙◌}
 use Rattle.std.proofs.lemmas.Bool.{false≢true}
 use Rattle.std.proofs.lemmas.List.Elements.{recursion_from_All}
-use Rattle.sequence.proofs.Each.{each_map, each_from_places}
+use Rattle.base_library.proofs.Each.{each_map, each_from_places}
 use Rattle.letter_space.specs.declared.space.Space.{Space}
 use Rattle.cobuchi_automata.specs.declared.automaton.Automaton.{Automaton}
 use Rattle.cobuchi_automata.specs.Edges.{edge_tree, IsBetween}

@@ -6,7 +6,7 @@ use Rattle.std.specs.List.{list_any, list_all, range_with_len, find, prefix_len}
 use Rattle.std.specs.Option.{unwrap_or}
 use Rattle.std.proofs.lemmas.Option.{none-some, same_Some}
 use Rattle.std.proofs.lemmas.Bool.{or_cases, or_left, or_right, false≢true, cases_lt}
-use Rattle.sequence.proofs.Passes.{list_all_parts, list_all_joined}
+use Rattle.base_library.proofs.Passes.{list_all_parts, list_all_joined}
 use Rattle.bounded_encoding.specs.Reading.{first_passing}
 
 -- what stands at a place of a table of such numbers

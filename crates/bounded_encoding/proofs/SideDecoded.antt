@@ -1,7 +1,7 @@
 -- The numbers that are read from an assignment that meets the clauses of a side annotate the machine whose moves are read from it.
 use Rattle.std.proofs.Common.{◌≡◌, ◌∙◌, ℕ, ◌+◌, ◌<◌, ◌≤◌, ◌==◌, Bool, true, List, Option, Some, slice_get, Contains, sym, ap, subst, arith}
 use Rattle.std.proofs.lemmas.Bool.{eqb-true}
-use Rattle.sequence.proofs.Each.{each_at}
+use Rattle.base_library.proofs.Each.{each_at}
 use Rattle.ltl_formula.specs.Cubes.{cube_matches}
 use Rattle.cobuchi_automata.specs.Automata.{EdgeTree}
 use Rattle.machines.specs.Moves.{MoveTree}

@@ -1,7 +1,7 @@
 -- What it is for an assignment to meet the clauses of a side, kind by kind.
 use Rattle.std.proofs.Common.{◌≡◌, ◌∙◌, ℕ, ◌+◌, ◌-◌, ◌<◌, ◌≤◌, Bool, true, List, [], ◌∷◌, ◌++◌, Some, slice_get, refl, arith}
 use Rattle.std.proofs.lemmas.Bool.{and_from, and_parts}
-use Rattle.sequence.proofs.Passes.{list_all_parts, list_all_joined}
+use Rattle.base_library.proofs.Passes.{list_all_parts, list_all_joined}
 use Rattle.clause_core.specs.Literals.{Lit}
 use Rattle.clause_core.specs.Clauses.{meets, meets_all}
 use Rattle.ltl_formula.specs.Cubes.{has_bit}

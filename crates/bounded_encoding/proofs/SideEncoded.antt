@@ -4,9 +4,9 @@ use Rattle.std.proofs.Common.{refl, sym, ap, arith}
 use Rattle.std.specs.Option.{option_map_or}
 use Rattle.std.specs.Prelude.{nat_le}
 use Rattle.std.proofs.lemmas.Bool.{eqb-true, leb-true, le-leb, false≢true}
-use Rattle.sequence.proofs.Booleans.{eqb_self}
-use Rattle.sequence.proofs.Each.{each_at}
-use Rattle.sequence.proofs.Places.{contains_at}
+use Rattle.base_library.proofs.Booleans.{eqb_self}
+use Rattle.base_library.proofs.Each.{each_at}
+use Rattle.base_library.proofs.Places.{contains_at}
 use Rattle.ltl_formula.specs.Cubes.{cube_matches}
 use Rattle.cobuchi_automata.specs.Automata.{EdgeTree}
 use Rattle.machines.specs.Moves.{MoveTree}

@@ -4,7 +4,7 @@ use annotation_check::Annotation;
 use clause_core::{Clause, Cnf};
 use machines::Controller;
 use refutation_check::Log;
-use sequence::Sequence;
+use base_library::Sequence;
 
 /// What a search for a controller came to.
 #[derive(Drop)]

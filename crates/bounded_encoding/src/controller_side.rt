@@ -21,7 +21,7 @@ use crate::frame::{Frame, variables_in_all};
 use crate::side::Side;
 use crate::transition_clauses::add_side;
 use cobuchi_automata::Edge;
-use sequence::NoMemory;
+use base_library::NoMemory;
 use std::alloc::Global;
 
 /// Whether a number has a bit from one on.

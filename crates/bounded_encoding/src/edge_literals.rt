@@ -12,7 +12,7 @@ ghost use Rattle.bounded_encoding.specs.internal.Transitions.{moved, IsAround, I
 use crate::simple_clauses::literal;
 use clause_core::Literal;
 use cobuchi_automata::Edge;
-use sequence::NoMemory;
+use base_library::NoMemory;
 use std::alloc::Global;
 
 /// A state of the machine, an edge, and a row that meets it, with the index of the first variable of what the machine

@@ -17,7 +17,7 @@ use crate::reading::{annotation_read, controller_read};
 use cobuchi_automata::Automaton;
 use letter_space::Space;
 use sat_core::{Answer, solve};
-use sequence::NoMemory;
+use base_library::NoMemory;
 use std::alloc::Global;
 
 /// Looks for a controller with so many states and an annotation within a bound, where so many clauses may be

@@ -16,7 +16,7 @@ use annotation_check::Annotation;
 use cobuchi_automata::Automaton;
 use letter_space::{Controlled, Space};
 use machines::{Controller, Entry};
-use sequence::{NoMemory, Sequence};
+use base_library::{NoMemory, Sequence};
 use std::alloc::Global;
 
 /// The controller with so many states that truths say. Those of the variables of choices stand first, and

@@ -5,7 +5,7 @@ ghost use Rattle.cobuchi_automata.specs.Automata.{EdgeTree};
 ghost use Rattle.cobuchi_automata.specs.Edges.{edge_tree};
 
 use cobuchi_automata::Edge;
-use sequence::NoMemory;
+use base_library::NoMemory;
 use std::alloc::Global;
 
 /// One side of a question, that of the machine that is looked for.

@@ -4,9 +4,9 @@ use Rattle.std.proofs.Common.{Some, slice_get, refl, sym, ap, arith, length-appe
 use Rattle.std.proofs.lemmas.Grind.{flat_map-append}
 use Rattle.std.proofs.lemmas.List.{length-map, map-append, length-take-le, length-drop}
 use Rattle.std.proofs.lemmas.Option.{none-some, same_Some, slice_get-get_or}
-use Rattle.sequence.specs.Numbers.{numbers_from}
-use Rattle.sequence.proofs.Numbers.{numbers_more, numbers_at, length-numbers}
-use Rattle.sequence.proofs.Places.{slice_get_some, slice_get_one, slice_get_grown, slice_get-append, take_next}
+use Rattle.base_library.specs.Numbers.{numbers_from}
+use Rattle.base_library.proofs.Numbers.{numbers_more, numbers_at, length-numbers}
+use Rattle.base_library.proofs.Places.{slice_get_some, slice_get_one, slice_get_grown, slice_get-append, take_next}
 use Rattle.letter_space.proofs.Places.{slice_get_image}
 use Rattle.tsl_terms.specs.TermTree.{TermTree, TermTrees, no_terms, more_terms, ProbeTree, terms_in, count_of_terms}
 use Rattle.branch_finder.specs.internal.Arguments.{arguments_of, start_of, AreStarts, ArePlaceLabels}

@@ -4,7 +4,7 @@ use Rattle.std.proofs.Common.{sym, subst, arith, inl, inr}
 use Rattle.std.proofs.Common.{length as count_of}
 use Rattle.std.proofs.lemmas.List.{length-map, length-take-le}
 use Rattle.std.proofs.lemmas.Option.{slice_get_within}
-use Rattle.sequence.proofs.Places.{slice_get_some, slice_get_push, slice_get_mapped, slice_get-take}
+use Rattle.base_library.proofs.Places.{slice_get_some, slice_get_push, slice_get_mapped, slice_get-take}
 use Rattle.tsl_terms.specs.WindowTree.{WindowTree}
 use Rattle.letter_space.specs.SpaceTree.{SpaceTree}
 use Rattle.machines.specs.MachineTree.{EnvironmentTree, IsEnvironment}

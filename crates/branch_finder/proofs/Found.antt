@@ -6,10 +6,10 @@ use Rattle.std.specs.List.{AllByRecursion, list_all}
 use Rattle.std.proofs.lemmas.Bool.{and_from, lt-ltb, le-leb}
 use Rattle.std.proofs.lemmas.List.{length-map}
 use Rattle.std.proofs.lemmas.Option.{slice_get_within, slice_get-get_or}
-use Rattle.sequence.specs.Numbers.{is_among}
-use Rattle.sequence.proofs.Each.{each_at, each_map, each_weaker, each_joined}
-use Rattle.sequence.proofs.Passes.{list_all_from_each}
-use Rattle.sequence.proofs.Places.{slice_get_one, slice_get_mapped}
+use Rattle.base_library.specs.Numbers.{is_among}
+use Rattle.base_library.proofs.Each.{each_at, each_map, each_weaker, each_joined}
+use Rattle.base_library.proofs.Passes.{list_all_from_each}
+use Rattle.base_library.proofs.Places.{slice_get_one, slice_get_mapped}
 use Rattle.tsl_terms.specs.TermTree.{ProbeTree, count_of_terms}
 use Rattle.tsl_terms.specs.WindowTree.{EquatedTree, WindowTree, right_alone, equality_probes}
 use Rattle.tsl_terms.specs.Congruence.{IsEquality, SidesAreOne}

@@ -2,7 +2,7 @@
 use Rattle.std.proofs.Common.{◌≡◌, ◌∙◌, ℕ, ◌+◌, ◌<◌, ◌⊎◌, inl, inr, Bool, true, false, List, Option, Some, None, IfNone, slice_get, sym}
 use Rattle.std.proofs.Common.{ap, subst, arith}
 use Rattle.std.proofs.lemmas.Bool.{false≢true}
-use Rattle.sequence.proofs.Places.{slice_get_one}
+use Rattle.base_library.proofs.Places.{slice_get_one}
 
 pub false_is_not_true : (b : Bool) → b ≡ false → b ≡ true → ⊥
 false_is_not_true b fails holds = false≢true (sym fails ∙ holds)

@@ -7,8 +7,8 @@ use Rattle.std.specs.Option.{option_map_or}
 use Rattle.std.proofs.lemmas.Bool.{and_from, and_parts, eqb-true}
 use Rattle.std.proofs.lemmas.Option.{same_Some, slice_get_within, slice_get-get_or, slice_get_read}
 use Rattle.lane_planes.specs.Planes.{has_bit, is_match}
-use Rattle.sequence.specs.Numbers.{is_among, numbers_from}
-use Rattle.sequence.proofs.Numbers.{among_filter, among_place, among_at, among_numbers, numbers_at, length-numbers}
+use Rattle.base_library.specs.Numbers.{is_among, numbers_from}
+use Rattle.base_library.proofs.Numbers.{among_filter, among_place, among_at, among_numbers, numbers_at, length-numbers}
 use Rattle.letter_space.specs.SpaceTree.{SpaceTree}
 use Rattle.machines.specs.MachineTree.{EnvironmentTree, IsEnvironment, successor_at}
 use Rattle.machines.specs.Visits.{IsVisited}
@@ -23,8 +23,8 @@ use Rattle.branch_finder.proofs.SetLemmas.{match_tells}
 use Rattle.letter_space.proofs.Places.{slice_get_image}
 use Rattle.std.specs.List.{AllByRecursion}
 use Rattle.std.proofs.lemmas.List.{length-map}
-use Rattle.sequence.proofs.Each.{each_from_places}
-use Rattle.sequence.proofs.Places.{slice_get_one, slice_get_push}
+use Rattle.base_library.proofs.Each.{each_from_places}
+use Rattle.base_library.proofs.Places.{slice_get_one, slice_get_push}
 
 -- ---- members of a list, as a plane
 

@@ -4,10 +4,10 @@ use Rattle.std.specs.Prelude.{find, option_map}
 use Rattle.std.specs.List.{AllByRecursion, Contains}
 use Rattle.std.proofs.lemmas.Bool.{and_parts, eqb-true, false≢true}
 use Rattle.std.proofs.lemmas.Option.{none-some}
-use Rattle.sequence.specs.Numbers.{is_among}
-use Rattle.sequence.proofs.Each.{each_at}
-use Rattle.sequence.proofs.Finds.{found_has, found_passes, find_none_at}
-use Rattle.sequence.proofs.Options.{some_mapped}
+use Rattle.base_library.specs.Numbers.{is_among}
+use Rattle.base_library.proofs.Each.{each_at}
+use Rattle.base_library.proofs.Finds.{found_has, found_passes, find_none_at}
+use Rattle.base_library.proofs.Options.{some_mapped}
 use Rattle.tsl_terms.specs.TermTree.{TermTree}
 use Rattle.tsl_terms.specs.WindowTree.{ListedTree, EquatedTree, WindowTree}
 use Rattle.tsl_terms.specs.Unfolding.{term_listed, term_taken_by_cell}

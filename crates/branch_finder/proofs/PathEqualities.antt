@@ -5,10 +5,10 @@ use Rattle.std.proofs.Common.{length, take, drop, Some, slice_get, refl, sym, ap
 use Rattle.std.specs.List.{AllByRecursion, list_all}
 use Rattle.std.proofs.lemmas.Bool.{and_from, and_parts, or_left, or_right, lt-ltb}
 use Rattle.std.proofs.lemmas.Option.{none-some, same_Some}
-use Rattle.sequence.specs.Once.{StandOnce}
-use Rattle.sequence.proofs.Each.{each_joined, each_weaker}
-use Rattle.sequence.proofs.Passes.{each_from_list_all, list_all_from_each}
-use Rattle.sequence.proofs.Places.{slice_get_grown, slice_get-append}
+use Rattle.base_library.specs.Once.{StandOnce}
+use Rattle.base_library.proofs.Each.{each_joined, each_weaker}
+use Rattle.base_library.proofs.Passes.{each_from_list_all, list_all_from_each}
+use Rattle.base_library.proofs.Places.{slice_get_grown, slice_get-append}
 use Rattle.tsl_terms.specs.TermTree.{ProbeTree}
 use Rattle.tsl_terms.specs.SameTree.{same_probe_tree}
 use Rattle.tsl_terms.proofs.SameLemmas.{same_probe_is}

@@ -5,9 +5,9 @@ use Rattle.std.proofs.Common.{length, Option, Some, None, slice_get, refl, ap, s
 use Rattle.std.specs.List.{AllByRecursion}
 use Rattle.std.proofs.lemmas.Bool.{eqb-true, false≢true, or_left, or_right, or_cases}
 use Rattle.std.proofs.lemmas.Option.{none-some, same_Some}
-use Rattle.sequence.specs.Numbers.{is_among}
-use Rattle.sequence.proofs.Each.{each_joined, each_weaker}
-use Rattle.sequence.proofs.Places.{slice_get_grown, slice_get-append}
+use Rattle.base_library.specs.Numbers.{is_among}
+use Rattle.base_library.proofs.Each.{each_joined, each_weaker}
+use Rattle.base_library.proofs.Places.{slice_get_grown, slice_get-append}
 use Rattle.tsl_terms.specs.TermTree.{TermTree}
 use Rattle.tsl_terms.specs.WindowTree.{ListedTree}
 use Rattle.letter_space.specs.SpaceTree.{ControlledTree, SpaceTree}

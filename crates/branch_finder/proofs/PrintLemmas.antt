@@ -10,10 +10,10 @@ use Rattle.std.proofs.lemmas.Nat.Bits.{bit_at_and, bit_at-lt, bit_at-zero, bit_a
 use Rattle.std.proofs.lemmas.Option.{slice_get_within}
 use Rattle.lane_planes.proofs.BitLemmas.{and_word, or_word}
 use Rattle.ltl_formula.specs.Cubes.{has_bit}
-use Rattle.sequence.specs.Numbers.{is_among}
-use Rattle.sequence.proofs.Numbers.{among_place}
-use Rattle.sequence.proofs.Each.{each_joined}
-use Rattle.sequence.proofs.Places.{slice_get_one, slice_get_grown, slice_get-behind}
+use Rattle.base_library.specs.Numbers.{is_among}
+use Rattle.base_library.proofs.Numbers.{among_place}
+use Rattle.base_library.proofs.Each.{each_joined}
+use Rattle.base_library.proofs.Places.{slice_get_one, slice_get_grown, slice_get-behind}
 use Rattle.tsl_terms.specs.TermTree.{ProbeTree}
 use Rattle.tsl_terms.specs.Congruence.{IsEquality}
 use Rattle.letter_space.specs.SpaceTree.{SpaceTree}

@@ -4,10 +4,10 @@ use Rattle.std.proofs.Common.{Option, Some, None, slice_get, refl, sym, ap, subs
 use Rattle.std.specs.Prelude.{◌↔◌, option_and_then}
 use Rattle.std.specs.List.{AllByRecursion}
 use Rattle.std.proofs.lemmas.Option.{none-some, same_Some, slice_get_within}
-use Rattle.sequence.specs.Numbers.{is_among}
-use Rattle.sequence.proofs.Each.{each_weaker}
-use Rattle.sequence.proofs.Lists.{heads, tails, flat_map_agree}
-use Rattle.sequence.proofs.Places.{slice_get_some}
+use Rattle.base_library.specs.Numbers.{is_among}
+use Rattle.base_library.proofs.Each.{each_weaker}
+use Rattle.base_library.proofs.Lists.{heads, tails, flat_map_agree}
+use Rattle.base_library.proofs.Places.{slice_get_some}
 use Rattle.tsl_terms.specs.TermTree.{TermTree, TermTrees, no_terms, more_terms, ProbeTree, terms_in, count_of_terms}
 use Rattle.tsl_terms.specs.WindowTree.{ListedTree, EquatedTree}
 use Rattle.tsl_terms.specs.FreeTree.{FreeTree}

@@ -8,12 +8,12 @@ use Rattle.std.proofs.Math.Bool.{and-true}
 use Rattle.std.specs.List.{AllByRecursion, list_all, list_any}
 use Rattle.std.proofs.lemmas.Bool.{and_parts, and_from, or_left, or_right, or_parts, or_cases, eqb-true, true≢false, not_from_false}
 use Rattle.std.proofs.lemmas.Option.{none-some}
-use Rattle.sequence.specs.Numbers.{is_among}
-use Rattle.sequence.proofs.Each.{each_at, each_filtered, each_map, each_weaker}
-use Rattle.sequence.proofs.Finds.{found_has, found_passes}
-use Rattle.sequence.proofs.Numbers.{among_place, among_filter}
-use Rattle.sequence.proofs.Options.{some_mapped}
-use Rattle.sequence.proofs.Passes.{list_all_weaker}
+use Rattle.base_library.specs.Numbers.{is_among}
+use Rattle.base_library.proofs.Each.{each_at, each_filtered, each_map, each_weaker}
+use Rattle.base_library.proofs.Finds.{found_has, found_passes}
+use Rattle.base_library.proofs.Numbers.{among_place, among_filter}
+use Rattle.base_library.proofs.Options.{some_mapped}
+use Rattle.base_library.proofs.Passes.{list_all_weaker}
 use Rattle.tsl_terms.specs.declared.term.Probe.{Probe}
 use Rattle.tsl_terms.specs.TermTree.{TermTree, TermTrees, ProbeTree, term_tree, probe_tree}
 use Rattle.tsl_terms.specs.WindowTree.{ListedTree, EquatedTree, WindowTree}

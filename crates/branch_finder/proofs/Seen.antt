@@ -6,9 +6,9 @@ use Rattle.std.specs.List.{AllByRecursion}
 use Rattle.std.proofs.lemmas.Bool.{and_from, and_parts}
 use Rattle.std.proofs.lemmas.List.{length-map}
 use Rattle.std.proofs.lemmas.Option.{slice_get_read}
-use Rattle.sequence.specs.Numbers.{is_among}
-use Rattle.sequence.proofs.Each.{each_at, each_weaker}
-use Rattle.sequence.proofs.Places.{slice_get_some, slice_get_one}
+use Rattle.base_library.specs.Numbers.{is_among}
+use Rattle.base_library.proofs.Each.{each_at, each_weaker}
+use Rattle.base_library.proofs.Places.{slice_get_some, slice_get_one}
 use Rattle.tsl_terms.specs.declared.term.Probe.{Probe}
 use Rattle.tsl_terms.specs.TermTree.{ProbeTree, probe_tree}
 use Rattle.tsl_terms.specs.WindowTree.{ListedTree, EquatedTree}

@@ -10,8 +10,8 @@ use Rattle.std.proofs.lemmas.Bool.{and_parts, cases_eq, cases_lt, eq-eqb, eqb-tr
 use Rattle.std.proofs.lemmas.Bool.Decides.{eqb_tells}
 use Rattle.std.proofs.lemmas.Nat.Bits.{bit_at_and, bit_at-lt, bit_at-zero, bit_at_above, bit_at-pow_same, bit_at-pow_other, same_from_bits}
 use Rattle.std.proofs.lemmas.Option.{none-some}
-use Rattle.sequence.specs.Numbers.{is_among}
-use Rattle.sequence.proofs.Places.{slice_get_some}
+use Rattle.base_library.specs.Numbers.{is_among}
+use Rattle.base_library.proofs.Places.{slice_get_some}
 use Rattle.tsl_terms.specs.TermTree.{TermTree}
 use Rattle.tsl_terms.specs.FormulaTree.{update}
 use Rattle.tsl_terms.specs.SameTree.{same_tree}

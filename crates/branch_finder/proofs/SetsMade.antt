@@ -3,10 +3,10 @@ use Rattle.std.proofs.Common.{◌≡◌, ◌∙◌, ℕ, ◌+◌, ◌<◌, true,
 use Rattle.std.proofs.Common.{inl, inr, refl, sym, ap, subst, arith, add-one, length-append}
 use Rattle.std.proofs.lemmas.List.{map-append}
 use Rattle.std.proofs.lemmas.Option.{slice_get_within, get_or_from_slice_get}
-use Rattle.sequence.specs.Numbers.{is_among, numbers_from}
-use Rattle.sequence.proofs.Each.{each_weaker, each_joined}
-use Rattle.sequence.proofs.Numbers.{among_place, numbers_more}
-use Rattle.sequence.proofs.Places.{slice_get_mapped, slice_get_grown, slice_get-behind, slice_get_some}
+use Rattle.base_library.specs.Numbers.{is_among, numbers_from}
+use Rattle.base_library.proofs.Each.{each_weaker, each_joined}
+use Rattle.base_library.proofs.Numbers.{among_place, numbers_more}
+use Rattle.base_library.proofs.Places.{slice_get_mapped, slice_get_grown, slice_get-behind, slice_get_some}
 use Rattle.letter_space.specs.SpaceTree.{SpaceTree}
 use Rattle.branch_finder.specs.internal.Sets.{set_of, numbered_set, AreSets}
 use Rattle.branch_finder.proofs.LoopFacts.{before_or_here}

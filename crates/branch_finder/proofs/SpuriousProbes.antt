@@ -1,7 +1,7 @@
 -- What a spurious window tests is a predicate term of the space.
 use Rattle.std.proofs.Common.{◌≡◌, ℕ, Bool, true, false, not, ◌∷◌, [], ◌++◌, map, Option, Some, None, slice_get}
 use Rattle.std.specs.List.{AllByRecursion}
-use Rattle.sequence.proofs.Each.{each_joined, each_map, each_weaker}
+use Rattle.base_library.proofs.Each.{each_joined, each_map, each_weaker}
 use Rattle.tsl_terms.specs.TermTree.{ProbeTree}
 use Rattle.tsl_terms.specs.WindowTree.{EquatedTree, WindowTree, left_probes, window_probes}
 use Rattle.letter_space.specs.SpaceTree.{SpaceTree}

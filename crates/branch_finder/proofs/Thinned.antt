@@ -3,9 +3,9 @@ use Rattle.std.proofs.Common.{◌≡◌, ℕ, zero, suc, ◌+◌, ◌<◌, ◌�
 use Rattle.std.proofs.Common.{slice_get, refl, sym, ap, subst, arith, inl, inr, ◌⊎◌, true}
 use Rattle.std.proofs.Common.{length as count_of}
 use Rattle.std.specs.List.{AllByRecursion, Contains}
-use Rattle.sequence.specs.Numbers.{is_among}
-use Rattle.sequence.proofs.Each.{each_weaker, each_from_places}
-use Rattle.sequence.proofs.Places.{contains_at}
+use Rattle.base_library.specs.Numbers.{is_among}
+use Rattle.base_library.proofs.Each.{each_weaker, each_from_places}
+use Rattle.base_library.proofs.Places.{contains_at}
 use Rattle.tsl_terms.specs.TermTree.{ProbeTree}
 use Rattle.tsl_terms.specs.WindowTree.{ListedTree, EquatedTree, WindowTree}
 use Rattle.tsl_terms.specs.Congruence.{IsCongruent, IsEquality, UpdateCells}

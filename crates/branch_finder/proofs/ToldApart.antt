@@ -5,7 +5,7 @@ use Rattle.std.specs.Prelude.{◌↔◌}
 use Rattle.std.proofs.lemmas.Bool.{false≢true}
 use Rattle.std.proofs.lemmas.List.{drop_all}
 use Rattle.std.proofs.lemmas.Option.{none-some, same_Some, slice_get_within}
-use Rattle.sequence.proofs.Places.{slice_get_one}
+use Rattle.base_library.proofs.Places.{slice_get_one}
 use Rattle.lane_planes.specs.Planes.{has_bit}
 use Rattle.ltl_formula.specs.Cubes.{has_bit as has}
 use Rattle.letter_space.specs.SpaceTree.{SpaceTree}

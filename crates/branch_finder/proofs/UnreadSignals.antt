@@ -1,7 +1,7 @@
 -- What terms unfold to depends on the signals alone that they read.
 use Rattle.std.proofs.Common.{◌≡◌, ◌∙◌, ℕ, zero, suc, Bool, true, false, Option, Some, None, List, refl, sym, ap, eq-eqb}
 use Rattle.std.proofs.lemmas.Bool.{or_parts, true≢false}
-use Rattle.sequence.specs.Numbers.{is_among}
+use Rattle.base_library.specs.Numbers.{is_among}
 use Rattle.tsl_terms.specs.TermTree.{TermTree, signal, apply, TermTrees, no_terms, more_terms}
 use Rattle.tsl_terms.specs.FreeTree.{FreeTree, applied, more_free}
 use Rattle.tsl_terms.specs.Signals.{term_reads, some_term_reads}

@@ -10,11 +10,11 @@ use Rattle.std.proofs.lemmas.List.{drop_more, length-map, length-append}
 use Rattle.std.proofs.lemmas.Nat.{div-mul-add, mod-mul-add}
 use Rattle.std.proofs.lemmas.Option.{slice_get_within}
 use Rattle.std.proofs.lemmas.Nat.Bits.{bit_at-zero}
-use Rattle.sequence.specs.Numbers.{is_among}
-use Rattle.sequence.proofs.Each.{each_at, each_weaker}
-use Rattle.sequence.proofs.Finds.{found_has, found_passes, find_none_at}
-use Rattle.sequence.proofs.Numbers.{among_first, among_next}
-use Rattle.sequence.proofs.Places.{slice_get_some, slice_get_grown, slice_get-append}
+use Rattle.base_library.specs.Numbers.{is_among}
+use Rattle.base_library.proofs.Each.{each_at, each_weaker}
+use Rattle.base_library.proofs.Finds.{found_has, found_passes, find_none_at}
+use Rattle.base_library.proofs.Numbers.{among_first, among_next}
+use Rattle.base_library.proofs.Places.{slice_get_some, slice_get_grown, slice_get-append}
 use Rattle.tsl_terms.specs.TermTree.{TermTree, signal, apply, TermTrees, no_terms, more_terms}
 use Rattle.tsl_terms.specs.WindowTree.{ListedTree, EquatedTree}
 use Rattle.tsl_terms.specs.FreeTree.{FreeTree, leaf_at, applied, FreeTrees, no_free, more_free}

@@ -8,10 +8,10 @@ use Rattle.std.proofs.lemmas.Cmp.{nat_eq_equiv}
 use Rattle.std.proofs.lemmas.Map.Keys.{IsDistinct-push}
 use Rattle.std.proofs.lemmas.Map.Steps.{length-le_from_distinct_below}
 use Rattle.std.proofs.lemmas.Option.{none-some, same_Some, slice_get_within}
-use Rattle.sequence.specs.Numbers.{is_among}
-use Rattle.sequence.proofs.Numbers.{among_at, among_place}
-use Rattle.sequence.proofs.Passes.{list_any_place}
-use Rattle.sequence.proofs.Places.{slice_get_push, slice_get_one, slice_get_grown, slice_get-behind}
+use Rattle.base_library.specs.Numbers.{is_among}
+use Rattle.base_library.proofs.Numbers.{among_at, among_place}
+use Rattle.base_library.proofs.Passes.{list_any_place}
+use Rattle.base_library.proofs.Places.{slice_get_push, slice_get_one, slice_get_grown, slice_get-behind}
 use Rattle.machines.specs.MachineTree.{EnvironmentTree, IsEnvironment, successor_at}
 use Rattle.machines.specs.Visits.{IsVisited, at_start, by_vector}
 use Rattle.machines.specs.declared.environment.Environment.{Environment}

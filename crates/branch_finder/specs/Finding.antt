@@ -5,7 +5,7 @@
 use Rattle.std.specs.Prelude.{◌≡◌, ℕ, suc, ◌*◌, ◌^◌, ◌<◌, ◌≤◌, true, List, ◌++◌, Option, map, take, drop, IsTrue}
 use Rattle.std.specs.Prelude.{length as count_of}
 use Rattle.std.specs.List.{AllByRecursion}
-use Rattle.sequence.specs.Numbers.{is_among}
+use Rattle.base_library.specs.Numbers.{is_among}
 use Rattle.tsl_terms.specs.WindowTree.{WindowTree}
 use Rattle.tsl_terms.specs.Congruence.{IsCongruent}
 use Rattle.program_tree.specs.Fits.{window_is_shaped}

@@ -6,7 +6,7 @@ ghost use Rattle.letter_space.specs.SpaceView.{space_tree};
 ghost use Rattle.branch_finder.specs.internal.Arguments.{arguments_of, AreStarts};
 
 use letter_space::Space;
-use sequence::NoMemory;
+use base_library::NoMemory;
 use std::alloc::Global;
 use tsl_terms::{Term, TermList, copy_term};
 

@@ -5,7 +5,7 @@ ghost use Rattle.branch_finder.specs.declared.limits.TheConstants.{MOST_BRANCHES
 ghost use Rattle.branch_finder.specs.internal.Paths.{path_of};
 
 use crate::limits::MOST_BRANCHES;
-use sequence::NoMemory;
+use base_library::NoMemory;
 use std::alloc::Global;
 
 /// Whether there are too many branches. Each step multiplies by the vectors, of which there is one at least, so

@@ -4,7 +4,7 @@ ghost use Rattle.std.specs.Prelude.{◌≡◌, ◌^◌, ◌<◌, ◌≤◌, ◌+
 ghost use Rattle.std.specs.Prelude.{IfOk, IfErr, IfSome, IfNone};
 ghost use Rattle.std.specs.Prelude.{length as count_of};
 ghost use Rattle.std.specs.List.{AllByRecursion};
-ghost use Rattle.sequence.specs.Numbers.{IsDistinct};
+ghost use Rattle.base_library.specs.Numbers.{IsDistinct};
 ghost use Rattle.tsl_terms.specs.WindowTree.{window_tree};
 ghost use Rattle.letter_space.specs.SpaceView.{space_tree};
 ghost use Rattle.machines.specs.MachineView.{environment_tree};
@@ -37,7 +37,7 @@ use crate::windows::window_seen;
 use lane_planes::any_bit;
 use letter_space::Space;
 use machines::Environment;
-use sequence::NoMemory;
+use base_library::NoMemory;
 use std::alloc::Global;
 use term_congruence::classes_along;
 use tsl_terms::Window;

@@ -3,7 +3,7 @@
 ghost use Rattle.std.specs.Prelude.{◌≡◌, ◌++◌, ◌∷◌, ◌<◌, [], ℕ, false, filter, length, cond, Some, slice_get, IfOk, OnOk};
 ghost use Rattle.std.specs.Option.{option_map_or};
 ghost use Rattle.std.specs.List.{AllByRecursion};
-ghost use Rattle.sequence.specs.Numbers.{numbers_from};
+ghost use Rattle.base_library.specs.Numbers.{numbers_from};
 ghost use Rattle.lane_planes.specs.Planes.{is_match};
 ghost use Rattle.letter_space.specs.SpaceView.{space_tree};
 ghost use Rattle.machines.specs.MachineView.{environment_tree};
@@ -14,7 +14,7 @@ use crate::planes::{has_bit, no_bits, set_bit};
 use lane_planes::matching;
 use letter_space::Space;
 use machines::Environment;
-use sequence::{NoMemory, Sequence};
+use base_library::{NoMemory, Sequence};
 use std::alloc::Global;
 
 /// Adds a vector at the end of others where it belongs there.

@@ -13,7 +13,7 @@ ghost use Rattle.branch_finder.specs.internal.Paths.{equality_if, equalities_in,
 
 use crate::prints::is_set;
 use letter_space::{Controlled, Space};
-use sequence::NoMemory;
+use base_library::NoMemory;
 use std::alloc::Global;
 use tsl_terms::{Equated, Listed, Probe, Term, copy_probe, copy_term};
 

@@ -19,7 +19,7 @@ use crate::prints::{bit_wanted, is_set};
 use lane_planes::any_bit;
 use letter_space::Space;
 use machines::Environment;
-use sequence::{NoMemory, Sequence};
+use base_library::{NoMemory, Sequence};
 use std::alloc::Global;
 use tsl_terms::Term;
 

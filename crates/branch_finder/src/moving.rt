@@ -14,7 +14,7 @@ use crate::planes::{has_bit, no_bits, set_bit};
 use crate::prints::Wanted;
 use lane_planes::or_into;
 use machines::Environment;
-use sequence::{NoMemory, Sequence};
+use base_library::{NoMemory, Sequence};
 use std::alloc::Global;
 
 /// The states in which an environment may be at first or later, as a plane. An `Err` says that memory ran out.

@@ -4,7 +4,7 @@ ghost use Rattle.std.specs.Prelude.{◌≡◌, ◌*◌, ◌<◌, ◌≤◌, ◌^
 ghost use Rattle.lane_planes.specs.Planes.{has_bit};
 ghost use Rattle.branch_finder.specs.internal.Planes.{words_of};
 
-use sequence::NoMemory;
+use base_library::NoMemory;
 use std::alloc::Global;
 
 /// A plane of so many bits, none of which is set. An `Err` says that memory ran out.

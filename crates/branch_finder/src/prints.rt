@@ -9,7 +9,7 @@ ghost use Rattle.branch_finder.specs.internal.Prints.{AreEqualityBits, ArePrints
 use crate::visiting::add_once;
 use letter_space::Space;
 use machines::Environment;
-use sequence::NoMemory;
+use base_library::NoMemory;
 use std::alloc::Global;
 use tsl_terms::is_equality;
 

@@ -2,7 +2,7 @@
 
 ghost use Rattle.std.specs.Prelude.{◌≡◌, ◌&&◌, ◌<◌, false, not, length, map, IfOk, IfSome, IfNone};
 ghost use Rattle.std.specs.List.{list_any};
-ghost use Rattle.sequence.specs.Numbers.{is_among};
+ghost use Rattle.base_library.specs.Numbers.{is_among};
 ghost use Rattle.tsl_terms.specs.TermTree.{term_tree, probe_tree};
 ghost use Rattle.tsl_terms.specs.Signals.{term_reads, some_term_reads};
 ghost use Rattle.letter_space.specs.ControlledView.{controlled_tree};
@@ -11,7 +11,7 @@ ghost use Rattle.branch_finder.specs.internal.Relevant.{IsUnread, AreUnread, Are
 
 use crate::visiting::is_found;
 use letter_space::{Controlled, Space};
-use sequence::NoMemory;
+use base_library::NoMemory;
 use std::alloc::Global;
 use tsl_terms::{Probe, Term, some_term_reads, term_reads};
 

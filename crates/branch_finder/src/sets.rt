@@ -1,7 +1,7 @@
 //! The updates of cells that vectors have, as sets of bits.
 
 ghost use Rattle.std.specs.Prelude.{◌≡◌, ◌<◌, ◌≤◌, ◌^◌, map, length, ◌+◌, IfOk, OnOk};
-ghost use Rattle.sequence.specs.Numbers.{is_among, numbers_from};
+ghost use Rattle.base_library.specs.Numbers.{is_among, numbers_from};
 ghost use Rattle.letter_space.specs.SpaceView.{space_tree};
 ghost use Rattle.letter_space.specs.Letters.{ArePicks};
 ghost use Rattle.letter_space.specs.Vectors.{vector_count};
@@ -9,7 +9,7 @@ ghost use Rattle.branch_finder.specs.internal.Sets.{mask_of, bit_taken, with_upd
 
 use crate::listing::term_taken;
 use letter_space::Space;
-use sequence::NoMemory;
+use base_library::NoMemory;
 use std::alloc::Global;
 
 /// The masks of so many vectors: the bits of the updates that each one picks. An `Err` says that memory ran out.

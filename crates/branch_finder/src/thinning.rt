@@ -8,7 +8,7 @@ ghost use Rattle.branch_finder.specs.Finding.{without_update, without_equality};
 ghost use Rattle.branch_finder.specs.internal.Thinning.{IsCandidate, AreNeededFrom, AreEqualitiesNeededFrom};
 
 use crate::looking::Search;
-use sequence::{NoMemory, Sequence};
+use base_library::{NoMemory, Sequence};
 use std::alloc::Global;
 use term_congruence::congruent;
 use tsl_terms::{Equated, Listed, Window, copy_probe, copy_term, copy_window};

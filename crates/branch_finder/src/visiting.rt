@@ -1,12 +1,12 @@
 //! The states that an environment visits.
 
 ghost use Rattle.std.specs.Prelude.{◌≡◌, ◌∷◌, ◌++◌, ◌<◌, ◌+◌, [], length, if◌then◌else◌, IfOk, OnOk};
-ghost use Rattle.sequence.specs.Numbers.{is_among};
+ghost use Rattle.base_library.specs.Numbers.{is_among};
 ghost use Rattle.machines.specs.MachineView.{environment_tree};
 ghost use Rattle.branch_finder.specs.internal.Visiting.{AreFoundUpTo, AreVisited};
 
 use machines::Environment;
-use sequence::NoMemory;
+use base_library::NoMemory;
 use std::alloc::Global;
 
 /// Adds a number at the end of others where it is not there.

@@ -11,7 +11,7 @@ ghost use Rattle.branch_finder.specs.internal.Thinning.{IsCandidate};
 ghost use Rattle.branch_finder.specs.internal.Finding.{HasNoneBy};
 
 use crate::looking::{Look, Pair, seen_alone, seen_pair};
-use sequence::{NoMemory, Sequence};
+use base_library::{NoMemory, Sequence};
 use std::alloc::Global;
 use tsl_terms::{Equated, Listed, Probe, Window, copy_probe};
 

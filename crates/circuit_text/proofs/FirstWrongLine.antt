@@ -4,7 +4,7 @@ use Rattle.std.proofs.Common.{Err, refl, sym, ap, subst, ◌∙◌, append_assoc
 use Rattle.std.proofs.Common.{◌⊎◌, inl, inr}
 use Rattle.std.specs.List.{list_all}
 use Rattle.std.proofs.lemmas.Bool.{and_from, ltb-true, lt-ltb}
-use Rattle.sequence.proofs.Passes.{list_all_joined}
+use Rattle.base_library.proofs.Passes.{list_all_joined}
 use Rattle.tsl_text.specs.Lines.{lines_from}
 use Rattle.tsl_text.specs.Written.{is_line, text_of_lines}
 use Rattle.line_formats.specs.Machine.{read_from, IsLive, IsText}

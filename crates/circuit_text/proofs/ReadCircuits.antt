@@ -5,9 +5,9 @@ use Rattle.std.proofs.Common.{slice_get}
 use Rattle.std.specs.List.{list_all}
 use Rattle.std.proofs.lemmas.Bool.{and_parts, and_from, ltb-true, ltb-false, lt-ltb}
 use Rattle.std.proofs.lemmas.List.{map-append}
-use Rattle.sequence.specs.Numbers.{numbers_from}
-use Rattle.sequence.proofs.Numbers.{numbers_more}
-use Rattle.sequence.proofs.Passes.{list_all_push, passes_at}
+use Rattle.base_library.specs.Numbers.{numbers_from}
+use Rattle.base_library.proofs.Numbers.{numbers_more}
+use Rattle.base_library.proofs.Passes.{list_all_push, passes_at}
 use Rattle.tsl_text.specs.Lines.{lines_from}
 use Rattle.tsl_text.specs.Written.{text_of_lines}
 use Rattle.line_formats.specs.Machine.{read_from, IsText}

@@ -4,8 +4,8 @@ use Rattle.std.proofs.Common.{Some, Result, Ok, refl, sym, ap, subst, ◌∙◌,
 use Rattle.std.specs.Prelude.{option_and_then}
 use Rattle.std.specs.List.{list_all}
 use Rattle.std.proofs.lemmas.Bool.{and_parts, and_from, lt-ltb, le-ltb}
-use Rattle.sequence.specs.Numbers.{numbers_from}
-use Rattle.sequence.proofs.Passes.{list_all_joined, list_all_from_places}
+use Rattle.base_library.specs.Numbers.{numbers_from}
+use Rattle.base_library.proofs.Passes.{list_all_joined, list_all_from_places}
 use Rattle.tsl_text.specs.Lines.{lines_from}
 use Rattle.tsl_text.specs.Written.{is_line, text_of_lines}
 use Rattle.line_formats.specs.Machine.{read_from, steps, IsText}

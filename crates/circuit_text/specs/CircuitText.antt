@@ -2,7 +2,7 @@
 -- Source: Biere, Heljanko, Wieringa: AIGER 1.9 And Beyond (2011).
 use Rattle.std.specs.Prelude.{◌≡◌, ℕ, suc, ◌+◌, ◌*◌, List, [], ◌∷◌, ◌++◌, length, map, codes, decimal, IsTrue}
 use Rattle.std.specs.List.{list_all}
-use Rattle.sequence.specs.Numbers.{numbers_from}
+use Rattle.base_library.specs.Numbers.{numbers_from}
 use Rattle.tsl_text.specs.Written.{is_line, line_of_fields, text_of_lines}
 use Rattle.circuits.specs.Circuits.{GateTree, CircuitTree, IsCircuit, variables}
 

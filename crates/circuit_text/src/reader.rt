@@ -15,7 +15,7 @@ use crate::counts::Counts;
 use crate::parts::{header, one_number, three_numbers, two_numbers};
 use circuits::{Circuit, Gate};
 use line_formats::{LastLine, LineReader, TextError, read_text};
-use sequence::{NoMemory, Sequence};
+use base_library::{NoMemory, Sequence};
 use std::alloc::Global;
 
 /// What was read so far.

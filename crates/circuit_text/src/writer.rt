@@ -1,7 +1,7 @@
 //! Circuits are written line by line.
 
 ghost use Rattle.std.specs.Prelude.{◌≡◌, ◌+◌, ◌<◌, ◌^◌, ◌++◌, ◌∷◌, [], length, map, IfOk, OnOk};
-ghost use Rattle.sequence.specs.Numbers.{numbers_from};
+ghost use Rattle.base_library.specs.Numbers.{numbers_from};
 ghost use Rattle.tsl_text.specs.Written.{text_of_lines};
 ghost use Rattle.circuits.specs.CircuitView.{circuit_tree};
 ghost use Rattle.circuits.specs.GateView.{gate_tree};
@@ -9,7 +9,7 @@ ghost use Rattle.circuit_text.specs.CircuitText.{numbers_line, header_line, inpu
 ghost use Rattle.circuit_text.specs.CircuitText.{gate_lines, circuit_text};
 
 use circuits::{Circuit, Gate};
-use sequence::NoMemory;
+use base_library::NoMemory;
 use std::alloc::Global;
 use tsl_text::{put_bytes, put_number};
 

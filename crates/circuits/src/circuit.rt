@@ -5,7 +5,7 @@ ghost use Rattle.circuits.specs.Circuits.{CircuitTree, IsCircuit};
 ghost use Rattle.circuits.specs.GateView.{gate_tree};
 
 use crate::gate::Gate;
-use sequence::Sequence;
+use base_library::Sequence;
 
 /// A circuit. Its variables are the inputs, the latches and the gates, numbered from 1 in this order.
 /// Literal 2v is variable v, 2v + 1 its negation, 0 is false and 1 is true. Latches start false.

@@ -4,7 +4,7 @@ use Rattle.std.specs.Prelude.{Some, slice_get, slice_index_or}
 use Rattle.std.specs.List.{AllByRecursion}
 use Rattle.std.proofs.lemmas.List.{take-append-le, drop-append-le, length-append, length-drop}
 use Rattle.std.proofs.Math.Seq.{take-length, drop-append_seam}
-use Rattle.sequence.proofs.Each.{each_at, each_joined}
+use Rattle.base_library.proofs.Each.{each_at, each_joined}
 use Rattle.clause_core.specs.Literals.{Lit}
 use Rattle.clause_core.specs.Clauses.{IsIncreasing}
 use Rattle.clause_core.specs.internal.Parts.{parts, start_of, Rise, AreClauses}

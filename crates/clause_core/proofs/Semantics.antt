@@ -3,7 +3,7 @@ use Rattle.std.proofs.Common.{◌≡◌, ℕ, zero, suc, Bool, true, false, not,
 use Rattle.std.proofs.Common.{inl, inr, Contains}
 use Rattle.std.specs.List.{list_all}
 use Rattle.std.proofs.lemmas.Bool.{true≢false, false≢true, or_cases, or_parts, or_left, or_right, cases_Bool, and_parts, and_from}
-use Rattle.sequence.proofs.Passes.{passes_contained}
+use Rattle.base_library.proofs.Passes.{passes_contained}
 use Rattle.clause_core.specs.Literals.{Lit, negation, same, has}
 use Rattle.clause_core.specs.Clauses.{is_true, meets, meets_all, Follows}
 use Rattle.clause_core.specs.Propagation.{not_false, IsFalse, Reaches, SomeFalse, IsQuiet, HasReversePropagation, IsTrace, makes_true}

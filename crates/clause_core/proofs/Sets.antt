@@ -15,8 +15,8 @@ use Rattle.std.proofs.lemmas.List.Kept.{Contains-dedup, Contains-from_dedup, IsS
 use Rattle.std.proofs.lemmas.Bool.{true≢false, false≢true, or_cases, or_left, or_right, cases_Bool, false_from_ne_true}
 use Rattle.std.proofs.lemmas.Bool.Decides.{Decides-int_eq}
 use Rattle.std.proofs.lemmas.Int.{ints}
-use Rattle.sequence.proofs.Booleans.{same_tests, not_not}
-use Rattle.sequence.proofs.Each.{each_weaker, each_left, each_between}
+use Rattle.base_library.proofs.Booleans.{same_tests, not_not}
+use Rattle.base_library.proofs.Each.{each_weaker, each_left, each_between}
 use Rattle.std.proofs.Math.Bool.{or_assoc, or_comm, or_self_left}
 use Rattle.clause_core.specs.Literals.{Lit, signed_number_of, literal_of, negation, same, has, code_of}
 use Rattle.clause_core.specs.Clauses.{IsIncreasing, with_literal, in_order, is_contained, has_pair}

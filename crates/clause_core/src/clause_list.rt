@@ -6,7 +6,7 @@ ghost use Rattle.clause_core.specs.internal.Parts.{Rise, start_of};
 
 use crate::clauses::{clause_of, have_pair};
 use crate::literals::Literal;
-use sequence::NoMemory;
+use base_library::NoMemory;
 use std::alloc::Global;
 use std::marker::Model;
 

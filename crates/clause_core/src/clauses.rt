@@ -4,7 +4,7 @@ ghost use Rattle.std.specs.Prelude.{◌≡◌, ◌↔◌, ◌∷◌, true, IfOk,
 ghost use Rattle.clause_core.specs.Clauses.{IsIncreasing, IsOver, in_order, is_contained, has_pair};
 
 use crate::literals::Literal;
-use sequence::NoMemory;
+use base_library::NoMemory;
 use smallvec::SmallVec;
 use std::alloc::Global;
 use std::marker::Model;

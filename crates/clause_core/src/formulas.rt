@@ -6,7 +6,7 @@ ghost use Rattle.clause_core.specs.Clauses.{IsOver, assignment_of, meets};
 use crate::clause_list::ClauseList;
 use crate::clauses::Clause;
 use crate::literals::Literal;
-use sequence::Sequence;
+use base_library::Sequence;
 
 /// A formula in conjunctive normal form: clauses over the variables from 1 to a number.
 #[derive(Drop)]

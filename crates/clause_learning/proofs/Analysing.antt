@@ -6,7 +6,7 @@ use Rattle.std.proofs.lemmas.Bool.{true≢false, false≢true, or_cases, or_left
 use Rattle.std.proofs.lemmas.Option.{none-some, same_Some, slice_get_within}
 use Rattle.std.proofs.lemmas.List.{reverse-append, length-reverse, length_push}
 use Rattle.std.proofs.lemmas.List.Elements.{All-nil}
-use Rattle.sequence.proofs.Places.{contains_at}
+use Rattle.base_library.proofs.Places.{contains_at}
 use Rattle.clause_learning.specs.Hints.{AreHints}
 use Rattle.clause_core.specs.Literals.{Lit, negation, same, has}
 use Rattle.clause_core.specs.Clauses.{in_order}

@@ -4,9 +4,9 @@ use Rattle.std.specs.Vec.{with_item}
 use Rattle.std.specs.Prelude.{option_map, slice_index_or}
 use Rattle.std.proofs.lemmas.Option.{get_or_from_slice_get, slice_get-map}
 use Rattle.std.proofs.lemmas.List.{length-append, length-map, map-append, append_assoc}
-use Rattle.sequence.specs.Numbers.{numbers_from}
-use Rattle.sequence.proofs.Numbers.{length-numbers, numbers_at}
-use Rattle.sequence.proofs.Places.{slice_get-front, slice_get-append}
+use Rattle.base_library.specs.Numbers.{numbers_from}
+use Rattle.base_library.proofs.Numbers.{length-numbers, numbers_at}
+use Rattle.base_library.proofs.Places.{slice_get-front, slice_get-append}
 use Rattle.clause_learning.specs.declared.clause_database.ClauseUse.{ClauseUse}
 use Rattle.clause_learning.specs.declared.clause_database.ClauseDatabase.{ClauseDatabase}
 use Rattle.clause_learning.specs.ClauseDatabases.{numbers_of}

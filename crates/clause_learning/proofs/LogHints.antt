@@ -5,9 +5,9 @@ use Rattle.std.specs.List.{AllByRecursion}
 use Rattle.std.proofs.lemmas.Option.{none-some, same_Some, slice_get_within, get_or_from_slice_get}
 use Rattle.std.proofs.lemmas.List.{append_assoc, append-nil, length-append, length_push}
 use Rattle.std.proofs.lemmas.List.Elements.{All-from_recursion, recursion_from_All, All-push, All-nil}
-use Rattle.sequence.proofs.Places.{slice_get_some, slice_get-front, slice_get-behind, slice_get_push, contains_at}
-use Rattle.sequence.specs.Numbers.{numbers_from}
-use Rattle.sequence.proofs.Numbers.{length-numbers, numbers_at}
+use Rattle.base_library.proofs.Places.{slice_get_some, slice_get-front, slice_get-behind, slice_get_push, contains_at}
+use Rattle.base_library.specs.Numbers.{numbers_from}
+use Rattle.base_library.proofs.Numbers.{length-numbers, numbers_at}
 use Rattle.clause_core.specs.Literals.{Lit}
 use Rattle.refutation_check.specs.Checking.{HintEffect, numbered_from, clause_named, effect_of_named, led_to, refused_hint}
 use Rattle.refutation_check.specs.Checking.HintEffect.{ends, makes, shows_nothing}

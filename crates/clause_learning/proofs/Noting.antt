@@ -8,7 +8,7 @@ use Rattle.std.proofs.lemmas.Option.{same_Some, slice_get_within}
 use Rattle.std.proofs.lemmas.List.{append_assoc, length_push, length-map}
 use Rattle.std.proofs.lemmas.List.Elements.{All-push, All-contains, All-from_recursion, recursion_from_All}
 use Rattle.std.proofs.lemmas.Map.Steps.{length-le_from_distinct_below}
-use Rattle.sequence.proofs.Places.{contains_at, slice_get_some, slice_get_one}
+use Rattle.base_library.proofs.Places.{contains_at, slice_get_some, slice_get_one}
 use Rattle.clause_core.specs.Literals.{Lit, negation, same, has, code_of}
 use Rattle.clause_core.specs.Clauses.{IsIncreasing, IsOver}
 use Rattle.clause_core.proofs.Sets.{AllByRecursion-has, same_is, same_from, negation-negation, IsIncreasing-apart, code_one, code_within}

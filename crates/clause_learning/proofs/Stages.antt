@@ -5,7 +5,7 @@ use Rattle.std.proofs.lemmas.Bool.{false≢true, or_cases, or_left, or_right, an
 use Rattle.std.proofs.lemmas.Bool.{eqb-false, ltb-true, ltb-false, le-ltb, lt-ltb, cond-true, cond-false}
 use Rattle.std.proofs.lemmas.Option.{same_Some}
 use Rattle.std.specs.Prelude.{nat_lt, IfSome}
-use Rattle.sequence.proofs.Places.{slice_get-take}
+use Rattle.base_library.proofs.Places.{slice_get-take}
 use Rattle.clause_core.specs.Literals.{Lit, negation, same, has}
 use Rattle.clause_core.proofs.Sets.{same_from, negation-negation, has-append}
 use Rattle.sat_trail.specs.declared.entries.Entry.{Entry}

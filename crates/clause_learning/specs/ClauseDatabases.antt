@@ -3,7 +3,7 @@
 use Rattle.std.specs.Prelude.{◌≡◌, ℕ, ◌-◌, ◌≤◌, List, ◌++◌, map, length, Some, slice_get, slice_index_or, All, Contains}
 use Rattle.clause_core.specs.Literals.{Lit}
 use Rattle.sat_trail.specs.States.{TrailState, started}
-use Rattle.sequence.specs.Numbers.{numbers_from}
+use Rattle.base_library.specs.Numbers.{numbers_from}
 use Rattle.clause_learning.specs.declared.clause_database.ClauseDatabase.{ClauseDatabase}
 
 -- The numbers in the log of the clauses on a trail, in their order. Those of the formula stand first, and have the numbers from 1 on.

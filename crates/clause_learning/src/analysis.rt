@@ -13,7 +13,7 @@ use crate::seen::Seen;
 use crate::units::Units;
 use clause_core::Literal;
 use sat_trail::Trail;
-use sequence::NoMemory;
+use base_library::NoMemory;
 use std::alloc::Global;
 
 /// What an analysis has found so far.

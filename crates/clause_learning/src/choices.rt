@@ -9,7 +9,7 @@ ghost use Rattle.clause_learning.specs.Decisions.{AreSet, IsUnset, AreForEach, A
 use crate::queue::VariableQueue;
 use clause_core::{Assignment, Literal};
 use sat_trail::Trail;
-use sequence::{NoMemory, Sequence};
+use base_library::{NoMemory, Sequence};
 use std::alloc::Global;
 
 /// What is decided next: of the variables that are not set the most active one, to the value that it had

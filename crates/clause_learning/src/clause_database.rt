@@ -7,7 +7,7 @@ ghost use Rattle.clause_learning.specs.ClauseDatabases.{numbers_of, log_hints, A
 
 use clause_core::{Clause, ClauseList, clause_of};
 use sat_trail::Trail;
-use sequence::NoMemory;
+use base_library::NoMemory;
 use std::alloc::Global;
 
 /// The most literals of a learnt clause that always stays on the trail.

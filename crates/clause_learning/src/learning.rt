@@ -15,7 +15,7 @@ use crate::units::Units;
 use clause_core::{Clause, clause_of};
 use refutation_check::Log;
 use sat_trail::Trail;
-use sequence::NoMemory;
+use base_library::NoMemory;
 use std::alloc::Global;
 
 /// A clause that follows, the hints that show it, and the level to go back to.

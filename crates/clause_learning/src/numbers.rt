@@ -5,7 +5,7 @@ ghost use Rattle.lane_planes.specs.Planes.{has_bit, word_at};
 ghost use Rattle.clause_learning.specs.NumberSets.{IsNumberSet, HasMember, IsFirstWord, IsLeastBit, contains, room};
 
 use lane_planes::first_bit;
-use sequence::NoMemory;
+use base_library::NoMemory;
 use std::alloc::Global;
 
 /// Numbers below a limit as bits, in words of 64. A bit of `words` says whether a word of the members has

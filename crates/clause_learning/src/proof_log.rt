@@ -8,7 +8,7 @@ ghost use Rattle.clause_learning.specs.ClauseDatabases.{numbers_of, AreFirst};
 use crate::clause_database::{ClauseDatabase, first_use};
 use clause_core::Clause;
 use refutation_check::{Log, Step};
-use sequence::{NoMemory, Sequence};
+use base_library::{NoMemory, Sequence};
 use std::alloc::Global;
 
 /// The steps that were taken, and the clauses on the trail by their numbers.

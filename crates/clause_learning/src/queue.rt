@@ -5,7 +5,7 @@ ghost use Rattle.clause_learning.specs.Queues.{IsQueue, AreBounded, IsVariableQu
 
 use crate::numbers::NumberSet;
 use crate::tournament::Tournament;
-use sequence::NoMemory;
+use base_library::NoMemory;
 use std::alloc::Global;
 
 /// The largest activity, and the most that a bump adds.

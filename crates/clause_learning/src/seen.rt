@@ -10,7 +10,7 @@ ghost use Rattle.clause_learning.specs.ConflictAnalysis.{is_seen, AreSeen, AreNo
 
 use clause_core::Literal;
 use sat_trail::Trail;
-use sequence::NoMemory;
+use base_library::NoMemory;
 use std::alloc::Global;
 
 /// Which entries of a trail are seen.

@@ -3,7 +3,7 @@
 ghost use Rattle.std.specs.Prelude.{◌≡◌, ◌==◌, ℕ, ◌+◌, ◌*◌, ◌^◌, ◌<◌, false, length, IfOk};
 ghost use Rattle.clause_learning.specs.Tournaments.{HasLeaves, IsTournament, HasWeight, is_before, winner, rank_at, weight};
 
-use sequence::NoMemory;
+use base_library::NoMemory;
 use std::alloc::Global;
 
 /// A variable and how active it is: 0 where it may not be decided.

@@ -14,7 +14,7 @@ use Rattle.tsl_text.specs.Lines.{NumberedLine, lines, words}
 use Rattle.refutation_check.specs.DataLines.{words_beside, data_lines}
 use Rattle.tsl_text.specs.Numbers.{signed_number_in}
 use Rattle.refutation_check.specs.Numbers.{is_zero}
-use Rattle.sequence.specs.Options.{passes}
+use Rattle.base_library.specs.Options.{passes}
 use Rattle.refutation_check.specs.declared.limits.TheConstants.{MOST_VARIABLES, MOST_CLAUSES}
 use Rattle.cnf_reader.specs.CnfText.{is_cnf, form_at, too_many_variables, too_many_clauses, header, means, with_zeros, is_right}
 use Rattle.cnf_reader.specs.CnfText.{first_wrong, numbers_of, clauses_of_numbers, answer_of_words, answer_of_header}

@@ -7,7 +7,7 @@ use Rattle.std.proofs.lemmas.Bool.{and_parts, eqb-true, not-false, cases_Bool}
 use Rattle.std.proofs.lemmas.List.{take_all, take_rest}
 use Rattle.std.proofs.lemmas.List.Folds.{list_all-append}
 use Rattle.std.proofs.Math.Seq.{take-add}
-use Rattle.sequence.proofs.Passes.{list_all-prefix}
+use Rattle.base_library.proofs.Passes.{list_all-prefix}
 use Rattle.tsl_text.specs.Lines.{is_blank, is_line_byte, has_bytes, lines, words}
 use Rattle.tsl_text.specs.Written.{is_line}
 use Rattle.tsl_text.proofs.FieldLaws.{words_blanks, is_word, IsStop, stop_after_prefix}

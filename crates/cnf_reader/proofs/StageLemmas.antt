@@ -4,8 +4,8 @@ use Rattle.std.proofs.Common.{Option, Some, None, inl, inr, sym, ap, ◌∙◌, 
 use Rattle.std.specs.Prelude.{nat_abs, count_by, flat_map, codes, bytes_eq, option_map, option_and_then}
 use Rattle.std.specs.Option.{option_map_or}
 use Rattle.std.proofs.lemmas.Bool.{ltb-false, leb-true, cases_Bool}
-use Rattle.sequence.specs.Options.{passes}
-use Rattle.sequence.proofs.Bytes.{same_bytes}
+use Rattle.base_library.specs.Options.{passes}
+use Rattle.base_library.proofs.Bytes.{same_bytes}
 use Rattle.clause_core.specs.Literals.{Lit}
 use Rattle.tsl_text.specs.Lines.{NumberedLine, lines, words}
 use Rattle.tsl_text.specs.Numbers.{is_digits, value_of, number_in, opposite, signed_number_in}

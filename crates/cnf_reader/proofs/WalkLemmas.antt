@@ -7,7 +7,7 @@ use Rattle.std.specs.Char.{is_ascii_digit}
 use Rattle.std.proofs.lemmas.Bool.{and_parts, leb-true, eqb-true}
 use Rattle.std.proofs.lemmas.List.{get_or-take}
 use Rattle.std.proofs.lemmas.List.Sums.{prefix_len_is}
-use Rattle.sequence.proofs.Passes.{passes_within}
+use Rattle.base_library.proofs.Passes.{passes_within}
 use Rattle.tsl_text.specs.Lines.{is_blank}
 use Rattle.tsl_text.specs.Numbers.{number_in, opposite, signed_number_in}
 

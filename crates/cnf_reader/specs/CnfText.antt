@@ -5,7 +5,7 @@ use Rattle.std.specs.List.{slice_split}
 use Rattle.clause_core.specs.Literals.{Lit, literal_of}
 use Rattle.clause_core.specs.Clauses.{in_order}
 use Rattle.cnf_reader.specs.declared.told.Counts.{Counts}
-use Rattle.sequence.specs.Options.{passes}
+use Rattle.base_library.specs.Options.{passes}
 use Rattle.refutation_check.specs.declared.limits.TheConstants.{MOST_VARIABLES, MOST_CLAUSES}
 use Rattle.tsl_text.specs.Lines.{NumberedLine, lines, words}
 use Rattle.tsl_text.specs.Numbers.{number_in, signed_number_in}

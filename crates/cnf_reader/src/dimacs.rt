@@ -5,7 +5,7 @@ ghost use Rattle.cnf_reader.specs.CnfText.{cnf_answer, is_cnf, form_at, too_many
 
 use crate::CnfReader;
 use clause_core::Cnf;
-use sequence::NoMemory;
+use base_library::NoMemory;
 use std::alloc::Global;
 use thiserror::Error;
 use tsl_io::TakePieces;

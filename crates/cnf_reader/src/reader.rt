@@ -13,7 +13,7 @@ use crate::stages::{Heading, Stage, add_number, add_word};
 use crate::told::{Counts, Told};
 use clause_core::Cnf;
 use refutation_check::{MOST_CLAUSES, MOST_VARIABLES};
-use sequence::NoMemory;
+use base_library::NoMemory;
 use std::alloc::Global;
 use tsl_io::TakePieces;
 use tsl_text::signed_number_in;

@@ -9,7 +9,7 @@ ghost use Rattle.cnf_reader.specs.internal.Places.{tells};
 
 use crate::places::Word;
 use crate::told::{Counts, Told};
-use sequence::NoMemory;
+use base_library::NoMemory;
 use std::alloc::Global;
 use tsl_text::number_in;
 

@@ -7,7 +7,7 @@ ghost use Rattle.cnf_reader.specs.internal.Told.{AreWithinLimits, ended_clauses}
 
 use clause_core::{ClauseList, Literal};
 use refutation_check::{MOST_CLAUSES, MOST_VARIABLES, literal_of};
-use sequence::NoMemory;
+use base_library::NoMemory;
 use std::alloc::Global;
 
 /// The numbers that a header tells.

@@ -4,14 +4,14 @@ use Rattle.std.specs.Prelude.{option_map, unwrap_or}
 use Rattle.std.specs.List.{AllByRecursion}
 use Rattle.std.proofs.lemmas.List.{length-map}
 use Rattle.std.proofs.lemmas.Option.{none-some, same_Some, slice_get-map, slice_get-get_or}
-use Rattle.sequence.proofs.Each.{each_contained, each_weaker, each_map}
-use Rattle.sequence.proofs.Places.{contains_at}
+use Rattle.base_library.proofs.Each.{each_contained, each_weaker, each_map}
+use Rattle.base_library.proofs.Places.{contains_at}
 use Rattle.ltl_formula.specs.LtlTree.{LtlTree}
 use Rattle.obligations.specs.Expansion.{ChoiceTree, choices}
 use Rattle.cobuchi_automata.specs.Automata.{StateTree, EdgeTree, untils_of, start_state, edge_of, IsReached, at_start, by_choice}
 use Rattle.cobuchi_automata.specs.Automata.{Leads, IsOfChoice, IsAutomaton}
 use Rattle.cobuchi_automata.specs.Refusals.{most_automaton_states, most_automaton_edges, Transition, IsTransition}
-use Rattle.sequence.specs.Once.{StandOnce}
+use Rattle.base_library.specs.Once.{StandOnce}
 use Rattle.cobuchi_automata.specs.Refusals.{HasTooManyChoices, HasTooManyStates, HasTooManyEdges}
 use Rattle.cobuchi_automata.specs.Renumbering.{Joins, IsRenumbered}
 use Rattle.cobuchi_automata.proofs.OnceLemmas.{Stands, not_more}

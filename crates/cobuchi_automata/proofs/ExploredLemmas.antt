@@ -9,8 +9,8 @@ use Rattle.std.proofs.lemmas.Bool.Decides.{eqb_tells}
 use Rattle.std.proofs.lemmas.List.{length-map, map_push}
 use Rattle.std.proofs.lemmas.Option.{slice_get-map, slice_get_within}
 use Rattle.std.proofs.lemmas.Slice.Eq.{bytes_eq-Decides}
-use Rattle.sequence.proofs.Each.{each_at, each_weaker}
-use Rattle.sequence.proofs.Places.{slice_get_some, slice_get_one, slice_get_mapped, contains_at}
+use Rattle.base_library.proofs.Each.{each_at, each_weaker}
+use Rattle.base_library.proofs.Places.{slice_get_some, slice_get_one, slice_get_mapped, contains_at}
 use Rattle.ltl_formula.specs.LtlTree.{LtlTree}
 use Rattle.ltl_formula.specs.LtlOrder.{tree_cmp}
 use Rattle.ltl_formula.specs.Increasing.{IsIncreasing}

@@ -3,9 +3,9 @@ use Rattle.std.proofs.Common.{◌≡◌, ◌∙◌, ℕ, ◌+◌, ◌<◌, ◌�
 use Rattle.std.proofs.Common.{length-append}
 use Rattle.std.specs.List.{AllByRecursion}
 use Rattle.std.proofs.lemmas.Option.{none-some, slice_get-get_or}
-use Rattle.sequence.proofs.Each.{each_joined}
-use Rattle.sequence.proofs.Places.{contains_at, slice_get_grown, slice_get_push}
-use Rattle.sequence.specs.Once.{StandOnce}
+use Rattle.base_library.proofs.Each.{each_joined}
+use Rattle.base_library.proofs.Places.{contains_at, slice_get_grown, slice_get_push}
+use Rattle.base_library.specs.Once.{StandOnce}
 use Rattle.cobuchi_automata.specs.internal.Exploring.{Grows}
 
 module _ {A : Type 0} where

@@ -4,9 +4,9 @@ use Rattle.std.proofs.Common.{Some, slice_get, refl, sym, ap, arith, add-zero, l
 use Rattle.std.specs.List.{list_any, list_all}
 use Rattle.std.specs.Option.{option_map_or}
 use Rattle.std.proofs.lemmas.Bool.{false≢true, and_parts}
-use Rattle.sequence.proofs.Each.{each_at}
-use Rattle.sequence.proofs.Places.{slice_get_some}
-use Rattle.sequence.proofs.Passes.{list_any_place, passes_at}
+use Rattle.base_library.proofs.Each.{each_at}
+use Rattle.base_library.proofs.Places.{slice_get_some}
+use Rattle.base_library.proofs.Passes.{list_any_place, passes_at}
 use Rattle.loop_shape.specs.LoopShape.{IsPosition, after, steps_on}
 use Rattle.loop_shape.proofs.Steps.{after_position}
 use Rattle.loop_shape.proofs.Untils.{until_comes}

@@ -4,8 +4,8 @@ use Rattle.std.specs.List.{list_any, AllByRecursion, IsDistinct}
 use Rattle.std.proofs.lemmas.Bool.{eqb-true, false≢true, or_cases, ne_eqb}
 use Rattle.std.proofs.lemmas.Map.Steps.{length-le_from_distinct_below}
 use Rattle.std.proofs.lemmas.Option.{slice_get_within}
-use Rattle.sequence.proofs.Places.{slice_get_one}
-use Rattle.sequence.specs.Once.{StandOnce}
+use Rattle.base_library.proofs.Places.{slice_get_one}
+use Rattle.base_library.specs.Once.{StandOnce}
 
 module _ {A : Type 0} (ys : List A) where
   -- a place at which a member stands

@@ -5,10 +5,10 @@ use Rattle.std.specs.List.{list_any, AllByRecursion}
 use Rattle.std.specs.Option.{option_map_or}
 use Rattle.std.proofs.lemmas.Bool.{false≢true, and_from, or_cases, or_left, or_right, false_from_ne_true}
 use Rattle.std.proofs.lemmas.Option.{same_Some, slice_get_within}
-use Rattle.sequence.specs.Kept.{is_kept, with_new}
-use Rattle.sequence.proofs.Each.{each_at, each_contained, each_left, each_right}
-use Rattle.sequence.proofs.Places.{contains_at}
-use Rattle.sequence.proofs.Passes.{list_any_place, list_any_contained}
+use Rattle.base_library.specs.Kept.{is_kept, with_new}
+use Rattle.base_library.proofs.Each.{each_at, each_contained, each_left, each_right}
+use Rattle.base_library.proofs.Places.{contains_at}
+use Rattle.base_library.proofs.Passes.{list_any_place, list_any_contained}
 use Rattle.loop_shape.specs.LoopShape.{IsPosition, after, steps_on}
 use Rattle.loop_shape.specs.AlongLoop.{until_at, ComesAfter}
 use Rattle.loop_shape.proofs.Steps.{after_position}

@@ -3,13 +3,13 @@ use Rattle.std.proofs.Common.{◌≡◌, ◌∙◌, ℕ, suc, List, length, map,
 use Rattle.std.specs.Prelude.{unwrap_or}
 use Rattle.std.specs.List.{AllByRecursion}
 use Rattle.std.proofs.lemmas.List.{length-map}
-use Rattle.sequence.proofs.Each.{each_at, each_map, each_weaker}
-use Rattle.sequence.proofs.Places.{slice_get_mapped}
+use Rattle.base_library.proofs.Each.{each_at, each_map, each_weaker}
+use Rattle.base_library.proofs.Places.{slice_get_mapped}
 use Rattle.ltl_formula.specs.LtlTree.{LtlTree}
 use Rattle.obligations.specs.Expansion.{choices}
 use Rattle.cobuchi_automata.specs.Automata.{StateTree, EdgeTree, untils_of, start_state, state_after, edge_of, IsReached, IsOfChoice}
 use Rattle.cobuchi_automata.specs.Refusals.{most_automaton_edges, Transition, IsTransition, HasTooManyEdges}
-use Rattle.sequence.specs.Once.{StandOnce}
+use Rattle.base_library.specs.Once.{StandOnce}
 
 module _ (f : LtlTree) (states : List StateTree) where
   -- the state with a number

@@ -4,8 +4,8 @@ use Rattle.std.specs.Prelude.{option_map}
 use Rattle.std.specs.List.{AllByRecursion}
 use Rattle.std.proofs.lemmas.List.{map_push, take_all}
 use Rattle.std.proofs.lemmas.Option.{slice_get-map, slice_get-get_or}
-use Rattle.sequence.proofs.Each.{each_at, each_joined}
-use Rattle.sequence.proofs.Places.{contains_at, take_next}
+use Rattle.base_library.proofs.Each.{each_at, each_joined}
+use Rattle.base_library.proofs.Places.{contains_at, take_next}
 use Rattle.ltl_formula.specs.LtlTree.{LtlTree}
 use Rattle.obligations.specs.declared.numbered.NumberedChoice.{NumberedChoice}
 use Rattle.obligations.specs.declared.step_error.StepError.{StepError}

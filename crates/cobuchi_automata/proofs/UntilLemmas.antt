@@ -1,9 +1,9 @@
 -- The untils of a formula are untils.
 use Rattle.std.proofs.Common.{◌≡◌, ◌∙◌, List, [], ◌∷◌, ◌++◌, Bool, true, false, if◌then◌else◌, refl, sym, ap}
 use Rattle.std.specs.List.{AllByRecursion}
-use Rattle.sequence.specs.Kept.{with_new, is_kept}
-use Rattle.sequence.proofs.Each.{each_joined, each_left, each_right}
-use Rattle.sequence.proofs.Kept.{with_new-append, with_new-step}
+use Rattle.base_library.specs.Kept.{with_new, is_kept}
+use Rattle.base_library.proofs.Each.{each_joined, each_left, each_right}
+use Rattle.base_library.proofs.Kept.{with_new-append, with_new-step}
 use Rattle.ltl_formula.specs.LtlTree.{LtlTree, LtlTrees, top, bottom, bit, not_bit, conjunction, disjunction, next, until, release}
 use Rattle.ltl_formula.specs.LtlTree.{no_formulas, more_formulas}
 use Rattle.obligations.specs.Expansion.{same_formula}

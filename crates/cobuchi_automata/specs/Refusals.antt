@@ -1,7 +1,7 @@
 -- When a formula has no automaton within the limits.
 use Rattle.std.specs.Prelude.{◌≡◌, ℕ, suc, ⊤, Bool, List, length, None, Some, Contains}
 use Rattle.std.specs.List.{AllByRecursion}
-use Rattle.sequence.specs.Once.{StandOnce}
+use Rattle.base_library.specs.Once.{StandOnce}
 use Rattle.ltl_formula.specs.LtlTree.{LtlTree}
 use Rattle.obligations.specs.Expansion.{ChoiceTree, choices}
 use Rattle.obligations.specs.declared.step_error.StepError.{StepError}

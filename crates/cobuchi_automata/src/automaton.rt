@@ -4,7 +4,7 @@ ghost use Rattle.std.specs.Prelude.{◌≤◌, All};
 ghost use Rattle.cobuchi_automata.specs.Edges.{IsBetween};
 
 use ltl_formula::Cube;
-use sequence::Sequence;
+use base_library::Sequence;
 
 /// An edge: the states that it joins, what it asks of the letter, and whether it is rejecting.
 #[derive(Debug, Clone, Copy, PartialEq, Eq, Hash)]

@@ -16,7 +16,7 @@ use crate::known::none_known;
 use crate::untils::until_numbers;
 use ltl_formula::Ltl;
 use obligations::{names_of_formula, no_expansions};
-use sequence::{NoMemory, Sequence};
+use base_library::{NoMemory, Sequence};
 use std::alloc::Global;
 
 /// The automaton of the states and edges that are found, where each state is expanded.

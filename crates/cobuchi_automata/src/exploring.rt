@@ -22,7 +22,7 @@ use crate::untils::until_numbers;
 use indexmap::IndexSet;
 use ltl_formula::{Cube, Ltl};
 use obligations::{NumberedChoice, names_of_formula, number_of};
-use sequence::NoMemory;
+use base_library::NoMemory;
 use std::alloc::Global;
 
 /// A formula, the formulas that its steps may leave, whose places are their numbers, and the numbers of

@@ -13,7 +13,7 @@ use crate::automaton::Edge;
 use crate::build_error::{BuildError, MOST_AUTOMATON_EDGES, MOST_AUTOMATON_STATES};
 use indexmap::IndexSet;
 use obligations::code_of;
-use sequence::NoMemory;
+use base_library::NoMemory;
 use std::hash::{Hash, Hasher};
 
 /// A set of formulas by their numbers, and the number of the until that is waited for.

@@ -1,7 +1,7 @@
 //! The untils of a formula.
 
 ghost use Rattle.std.specs.Prelude.{◌≡◌, ◌∷◌, [], ◌<◌, ◌^◌, IfOk, OnOk, length, map};
-ghost use Rattle.sequence.specs.Kept.{is_kept, with_new};
+ghost use Rattle.base_library.specs.Kept.{is_kept, with_new};
 ghost use Rattle.ltl_formula.specs.LtlTree.{ltl_tree, ltl_trees};
 ghost use Rattle.ltl_formula.specs.LtlOrder.{tree_cmp};
 ghost use Rattle.ltl_formula.specs.Increasing.{IsIncreasing};
@@ -11,7 +11,7 @@ ghost use Rattle.cobuchi_automata.specs.Automata.{untils_in, untils_in_all, unti
 
 use ltl_formula::{Ltl, LtlList, compare};
 use obligations::number_of;
-use sequence::NoMemory;
+use base_library::NoMemory;
 use std::alloc::Global;
 
 /// Whether a formula stands among others.

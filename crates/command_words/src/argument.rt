@@ -7,7 +7,7 @@ ghost use Rattle.command_words.specs.internal.Matches.{parser_for, rule_for};
 
 use clap::builder::ValueParser;
 use clap::{Arg, ArgAction, Command};
-use sequence::NoMemory;
+use base_library::NoMemory;
 use std::alloc::Global;
 
 /// What the value of an argument may be.

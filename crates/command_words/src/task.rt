@@ -4,7 +4,7 @@ ghost use Rattle.std.specs.Prelude.{◌≡◌};
 ghost use Rattle.command_words.specs.declared.task.WordsError.TheVariants.{NoMemory};
 
 use crate::synth_bound::SynthBound;
-use sequence::NoMemory;
+use base_library::NoMemory;
 
 /// Why words ask for nothing.
 #[derive(Clone, Copy, Debug, PartialEq, Eq)]

@@ -6,8 +6,8 @@ use Rattle.std.proofs.lemmas.Bool.{lt-ltb}
 use Rattle.std.proofs.lemmas.List.{length-map}
 use Rattle.std.proofs.lemmas.Nat.{mul-add-lt, div-mul-add, mod-mul-add}
 use Rattle.std.proofs.lemmas.Option.{slice_get-map}
-use Rattle.sequence.proofs.Each.{each_from_places}
-use Rattle.sequence.proofs.Places.{slice_get_some, slice_get_push, slice_get_mapped}
+use Rattle.base_library.proofs.Each.{each_from_places}
+use Rattle.base_library.proofs.Places.{slice_get_some, slice_get_push, slice_get_mapped}
 use Rattle.program_tree.specs.ProgramTree.{ProgramTree}
 use Rattle.letter_space.specs.SpaceTree.{SpaceTree}
 use Rattle.letter_space.specs.Letters.{valuation_count, ArePicks}

@@ -7,12 +7,12 @@ use Rattle.std.proofs.lemmas.Bool.{and_from, eqb-true, false≢true, ltb-true, l
 use Rattle.std.proofs.lemmas.List.{length-map}
 use Rattle.std.proofs.lemmas.List.Quantifiers.{position-Some}
 use Rattle.std.proofs.lemmas.Option.{none-some, same_Some, option_and_then_some, slice_get_within, slice_get-get_or, get_or_from_slice_get}
-use Rattle.sequence.proofs.Each.{each_from_places}
-use Rattle.sequence.proofs.Finds.{find_none_at}
-use Rattle.sequence.proofs.Lists.{heads, tails}
-use Rattle.sequence.proofs.Options.{some_mapped, one_value}
-use Rattle.sequence.proofs.Passes.{list_all_from_places}
-use Rattle.sequence.proofs.Places.{contains_at, slice_get_some}
+use Rattle.base_library.proofs.Each.{each_from_places}
+use Rattle.base_library.proofs.Finds.{find_none_at}
+use Rattle.base_library.proofs.Lists.{heads, tails}
+use Rattle.base_library.proofs.Options.{some_mapped, one_value}
+use Rattle.base_library.proofs.Passes.{list_all_from_places}
+use Rattle.base_library.proofs.Places.{contains_at, slice_get_some}
 use Rattle.tsl_terms.specs.TermTree.{TermTree, ProbeTree}
 use Rattle.tsl_terms.specs.SameTree.{same_tree, same_probe_tree}
 use Rattle.tsl_terms.specs.Laws.{IsRising}

@@ -4,17 +4,17 @@ use Rattle.std.proofs.Common.{Option, Some, slice_get, length, sym, ap, refl, su
 use Rattle.std.specs.List.{AllByRecursion}
 use Rattle.std.proofs.lemmas.Bool.{false≢true}
 use Rattle.std.proofs.lemmas.Option.{none-some, same_Some}
-use Rattle.sequence.proofs.Each.{each_at, each_flat_map, each_from_places, each_joined}
-use Rattle.sequence.proofs.Lists.{heads, tails}
-use Rattle.sequence.proofs.Options.{some_mapped}
-use Rattle.sequence.proofs.Places.{contains_at, slice_get_one}
+use Rattle.base_library.proofs.Each.{each_at, each_flat_map, each_from_places, each_joined}
+use Rattle.base_library.proofs.Lists.{heads, tails}
+use Rattle.base_library.proofs.Options.{some_mapped}
+use Rattle.base_library.proofs.Places.{contains_at, slice_get_one}
 use Rattle.tsl_terms.specs.Laws.{IsRising}
 use Rattle.tsl_terms.specs.TermTree.{ProbeTree}
 use Rattle.tsl_terms.specs.WindowTree.{WindowTree}
 use Rattle.program_tree.specs.NodeTree.{NodeTree, branch, assign}
 use Rattle.program_tree.specs.ProgramTree.{ProgramTree}
 use Rattle.letter_space.specs.SpaceTree.{SpaceTree, IsSpace}
-use Rattle.sequence.specs.Once.{StandOnce}
+use Rattle.base_library.specs.Once.{StandOnce}
 use Rattle.machines.specs.MachineTree.{EntryTree, ControllerTree, controller_entry}
 use Rattle.control_flow_model.specs.DecisionTree.{DecisionTree, leaf, fork, same_decision, decision_tree, subtrees}
 use Rattle.control_flow_model.specs.Flow.{AreKept, state_tree, shared_trees, node_number, node_for, IsFlowOf}

@@ -5,7 +5,7 @@ use Rattle.std.specs.Prelude.{Contains}
 use Rattle.std.proofs.lemmas.Bool.{ltb-true}
 use Rattle.std.proofs.lemmas.List.{get_or-drop}
 use Rattle.std.proofs.lemmas.Option.{none-some, same_Some, slice_get_within, slice_get-get_or, get_or_from_slice_get}
-use Rattle.sequence.proofs.Places.{slice_get_taken, contains_at}
+use Rattle.base_library.proofs.Places.{slice_get_taken, contains_at}
 use Rattle.letter_space.specs.SpaceTree.{SpaceTree}
 use Rattle.letter_space.specs.Letters.{letter_of}
 use Rattle.machines.specs.MachineTree.{EntryTree, ControllerTree, controller_entry}

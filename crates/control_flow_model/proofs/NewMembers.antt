@@ -3,9 +3,9 @@ use Rattle.std.proofs.Common.{◌≡◌, ◌∙◌, ℕ, zero, suc, ◌+◌, ◌
 use Rattle.std.proofs.Common.{sym, ap, refl, subst, arith, inl, inr, length-append}
 use Rattle.std.proofs.lemmas.Bool.{false≢true}
 use Rattle.std.proofs.lemmas.Option.{none-some, same_Some}
-use Rattle.sequence.specs.Kept.{is_kept, with_new}
-use Rattle.sequence.proofs.Passes.{list_any_contained, list_any_place}
-use Rattle.sequence.proofs.Places.{contains_at, slice_get-behind, slice_get_grown, slice_get_push}
+use Rattle.base_library.specs.Kept.{is_kept, with_new}
+use Rattle.base_library.proofs.Passes.{list_any_contained, list_any_place}
+use Rattle.base_library.proofs.Places.{contains_at, slice_get-behind, slice_get_grown, slice_get_push}
 
 module _ {X : Type 0} (same : X → X → Bool) where
   -- one member more, unless it is there

@@ -10,22 +10,22 @@ use Rattle.std.proofs.lemmas.List.{map_push, take_more, take_all, map-append}
 use Rattle.std.proofs.lemmas.Nat.{mul-le}
 use Rattle.std.proofs.lemmas.Option.{none-some, same_Some, slice_get_within}
 use Rattle.std.proofs.Math.Pow.{pow_mono}
-use Rattle.sequence.specs.Kept.{with_new}
-use Rattle.sequence.specs.Numbers.{is_among}
-use Rattle.sequence.proofs.Booleans.{eqb_self}
-use Rattle.sequence.proofs.Each.{each_at, each_from_places, each_joined, each_flat_map}
-use Rattle.sequence.proofs.Finds.{find_none_at}
-use Rattle.sequence.proofs.Lists.{heads, tails}
-use Rattle.sequence.proofs.Numbers.{among_at, among_place}
-use Rattle.sequence.proofs.Options.{some_mapped}
-use Rattle.sequence.proofs.Places.{contains_at, slice_get_some, slice_get_one}
+use Rattle.base_library.specs.Kept.{with_new}
+use Rattle.base_library.specs.Numbers.{is_among}
+use Rattle.base_library.proofs.Booleans.{eqb_self}
+use Rattle.base_library.proofs.Each.{each_at, each_from_places, each_joined, each_flat_map}
+use Rattle.base_library.proofs.Finds.{find_none_at}
+use Rattle.base_library.proofs.Lists.{heads, tails}
+use Rattle.base_library.proofs.Numbers.{among_at, among_place}
+use Rattle.base_library.proofs.Options.{some_mapped}
+use Rattle.base_library.proofs.Places.{contains_at, slice_get_some, slice_get_one}
 use Rattle.tsl_terms.specs.declared.term.Term.{Term}
 use Rattle.tsl_terms.specs.TermTree.{term_tree}
 use Rattle.program_tree.specs.NodeTree.{NodeTree, branch}
 use Rattle.letter_space.specs.declared.controlled.Controlled.{Controlled}
 use Rattle.letter_space.specs.ControlledView.{controlled_tree}
 use Rattle.letter_space.specs.SpaceTree.{SpaceTree, IsSpace}
-use Rattle.sequence.specs.Once.{StandOnce}
+use Rattle.base_library.specs.Once.{StandOnce}
 use Rattle.letter_space.specs.Letters.{valuation_count, ArePicks}
 use Rattle.letter_space.proofs.Places.{position_tells}
 use Rattle.machines.specs.MachineTree.{EntryTree, ControllerTree, controller_entry}

@@ -5,12 +5,12 @@ use Rattle.std.proofs.lemmas.Bool.{lt-ltb}
 use Rattle.std.proofs.lemmas.List.{ext_get_or}
 use Rattle.std.proofs.lemmas.Option.{none-some, get_or_from_slice_get}
 use Rattle.std.proofs.Math.Nat.{div-lt_iff_lt-mul}
-use Rattle.sequence.proofs.Options.{one_value}
+use Rattle.base_library.proofs.Options.{one_value}
 use Rattle.tsl_terms.specs.TermTree.{TermTree}
 use Rattle.program_tree.specs.ProgramTree.{ProgramTree}
 use Rattle.program_tree.specs.Walk.{Action}
 use Rattle.letter_space.specs.SpaceTree.{ControlledTree, SpaceTree, IsSpace}
-use Rattle.sequence.specs.Once.{StandOnce}
+use Rattle.base_library.specs.Once.{StandOnce}
 use Rattle.machines.specs.MachineTree.{EntryTree, ControllerTree}
 use Rattle.control_flow_model.specs.ControllerOf.{terms_picked, IsEntryOf, IsControllerOf}
 use Rattle.control_flow_model.proofs.PickedTerms.{picked_parts}

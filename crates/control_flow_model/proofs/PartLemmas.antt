@@ -5,12 +5,12 @@ use Rattle.std.specs.Prelude.{option_map, option_and_then}
 use Rattle.std.specs.List.{list_any}
 use Rattle.std.proofs.lemmas.Bool.{and_parts, cases_eq, eqb-true, false≢true, false_from_ne_true}
 use Rattle.std.proofs.lemmas.Option.{slice_get_within, slice_get-map}
-use Rattle.sequence.specs.Kept.{is_kept, with_new}
-use Rattle.sequence.proofs.Booleans.{same_tests}
-use Rattle.sequence.proofs.Kept.{with_new-append, with_new-absent, with_new-present, with_new-from_none}
-use Rattle.sequence.proofs.Places.{slice_get_some, slice_get_one, slice_get_push, slice_get_grown, slice_get-behind}
+use Rattle.base_library.specs.Kept.{is_kept, with_new}
+use Rattle.base_library.proofs.Booleans.{same_tests}
+use Rattle.base_library.proofs.Kept.{with_new-append, with_new-absent, with_new-present, with_new-from_none}
+use Rattle.base_library.proofs.Places.{slice_get_some, slice_get_one, slice_get_push, slice_get_grown, slice_get-behind}
 use Rattle.tsl_terms.specs.Distinct.{without_repeats}
-use Rattle.sequence.specs.Once.{StandOnce}
+use Rattle.base_library.specs.Once.{StandOnce}
 use Rattle.letter_space.proofs.Once.{once_without_repeats}
 use Rattle.machines.specs.MachineTree.{EntryTree, ControllerTree, controller_entry}
 use Rattle.control_flow_model.specs.contracts.parting.PartPartialEq.TheImpl as impl

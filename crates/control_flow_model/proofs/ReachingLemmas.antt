@@ -7,13 +7,13 @@ use Rattle.std.proofs.lemmas.Cmp.{nat_eq_equiv}
 use Rattle.std.proofs.lemmas.Map.Keys.{IsDistinct-push}
 use Rattle.std.proofs.lemmas.Map.Steps.{length-le_from_distinct_below}
 use Rattle.std.proofs.lemmas.Option.{none-some, same_Some, slice_get_within}
-use Rattle.sequence.specs.Kept.{with_new}
-use Rattle.sequence.specs.Numbers.{is_among, numbers_from}
-use Rattle.sequence.proofs.Booleans.{eqb_self}
-use Rattle.sequence.proofs.Kept.{with_new-append}
-use Rattle.sequence.proofs.Numbers.{among_at, among_place, among_numbers}
-use Rattle.sequence.proofs.Passes.{list_any_place, filter_at, filter_has}
-use Rattle.sequence.proofs.Places.{contains_at, slice_get_one, slice_get_push, slice_get_some, slice_get_grown, slice_get-behind}
+use Rattle.base_library.specs.Kept.{with_new}
+use Rattle.base_library.specs.Numbers.{is_among, numbers_from}
+use Rattle.base_library.proofs.Booleans.{eqb_self}
+use Rattle.base_library.proofs.Kept.{with_new-append}
+use Rattle.base_library.proofs.Numbers.{among_at, among_place, among_numbers}
+use Rattle.base_library.proofs.Passes.{list_any_place, filter_at, filter_has}
+use Rattle.base_library.proofs.Places.{contains_at, slice_get_one, slice_get_push, slice_get_some, slice_get_grown, slice_get-behind}
 use Rattle.tsl_terms.proofs.SignalFacts.{numbers_rise}
 use Rattle.machines.specs.MachineTree.{EntryTree, ControllerTree, IsController, controller_entry}
 use Rattle.control_flow_model.specs.Flow.{IsReachable, at_start, by_entry, AreKept}

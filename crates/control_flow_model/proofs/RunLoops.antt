@@ -8,10 +8,10 @@ use Rattle.std.proofs.lemmas.Bool.Decides.{eqb_tells}
 use Rattle.std.proofs.lemmas.List.{take-append-drop, length-take-le, length-drop, length-map}
 use Rattle.std.proofs.lemmas.List.Quantifiers.{position-Some}
 use Rattle.std.proofs.lemmas.Option.{option_and_then_some, slice_get_within, slice_get-get_or, slice_get-map}
-use Rattle.sequence.specs.Numbers.{numbers_from}
-use Rattle.sequence.proofs.Numbers.{numbers_at}
-use Rattle.sequence.proofs.Each.{each_from_places}
-use Rattle.sequence.proofs.Options.{one_value, some_is, some_mapped}
+use Rattle.base_library.specs.Numbers.{numbers_from}
+use Rattle.base_library.proofs.Numbers.{numbers_at}
+use Rattle.base_library.proofs.Each.{each_from_places}
+use Rattle.base_library.proofs.Options.{one_value, some_is, some_mapped}
 use Rattle.loop_shape.specs.LoopShape.{LoopShape, after}
 use Rattle.tsl_terms.specs.TermTree.{TermTree, ProbeTree}
 use Rattle.tsl_terms.specs.SameTree.{same_tree, same_probe_tree}

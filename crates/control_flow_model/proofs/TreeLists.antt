@@ -10,10 +10,10 @@ use Rattle.std.proofs.lemmas.Option.{none-some, same_Some, option_and_then_some,
 use Rattle.std.proofs.lemmas.Nat.Bits.{bit_at_lowest, bit_at_cat_high}
 use Rattle.std.proofs.lemmas.Slice.Eq.{bytes_eq-Decides}
 use Rattle.std.proofs.Math.Nat.{pow-suc}
-use Rattle.sequence.specs.Kept.{with_new}
-use Rattle.sequence.proofs.Kept.{with_new-append}
-use Rattle.sequence.proofs.Options.{some_mapped}
-use Rattle.sequence.proofs.Places.{slice_get_push, slice_get_grown, slice_get-behind}
+use Rattle.base_library.specs.Kept.{with_new}
+use Rattle.base_library.proofs.Kept.{with_new-append}
+use Rattle.base_library.proofs.Options.{some_mapped}
+use Rattle.base_library.proofs.Places.{slice_get_push, slice_get_grown, slice_get-behind}
 use Rattle.std.specs.Int.{bit_at}
 use Rattle.ltl_formula.specs.Cubes.{has_bit}
 use Rattle.machines.specs.MachineTree.{EntryTree}

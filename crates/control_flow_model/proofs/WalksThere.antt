@@ -2,9 +2,9 @@
 use Rattle.std.proofs.Common.{◌≡◌, ◌∙◌, ℕ, zero, suc, ◌<◌, Bool, true, false, cond, List, length, Some, slice_get, refl, ap, arith}
 use Rattle.std.specs.Prelude.{option_map, option_and_then, is_some, IsSome, map}
 use Rattle.std.proofs.lemmas.List.{length-map}
-use Rattle.sequence.proofs.Options.{some_is}
-use Rattle.sequence.proofs.Passes.{passes_at}
-use Rattle.sequence.proofs.Places.{slice_get_some}
+use Rattle.base_library.proofs.Options.{some_is}
+use Rattle.base_library.proofs.Passes.{passes_at}
+use Rattle.base_library.proofs.Places.{slice_get_some}
 use Rattle.tsl_terms.specs.TermTree.{ProbeTree}
 use Rattle.program_tree.specs.declared.program.Program.{Program}
 use Rattle.program_tree.specs.NodeTree.{NodeTree, branch, assign, node_tree}

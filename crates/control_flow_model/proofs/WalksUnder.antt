@@ -3,7 +3,7 @@ use Rattle.std.proofs.Common.{◌≡◌, ◌∙◌, ℕ, zero, suc, Bool, true, 
 use Rattle.std.specs.Prelude.{option_and_then, is_some}
 use Rattle.std.specs.List.{list_all}
 use Rattle.std.proofs.lemmas.Option.{none-some, option_and_then_some}
-use Rattle.sequence.proofs.Passes.{passes_at}
+use Rattle.base_library.proofs.Passes.{passes_at}
 use Rattle.tsl_terms.specs.TermTree.{ProbeTree}
 use Rattle.program_tree.specs.NodeTree.{NodeTree, branch, assign}
 use Rattle.program_tree.specs.ProgramTree.{ProgramTree}

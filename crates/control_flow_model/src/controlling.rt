@@ -15,7 +15,7 @@ ghost use Rattle.control_flow_model.specs.ControllerOf.{truth_under, terms_picke
 use letter_space::{Controlled, Space};
 use machines::{Controller, Entry};
 use program_tree::{Node, Program};
-use sequence::{NoMemory, Sequence};
+use base_library::{NoMemory, Sequence};
 use std::alloc::Global;
 use tsl_terms::{Probe, Term};
 

@@ -2,7 +2,7 @@
 
 ghost use Rattle.std.specs.Prelude.{◌≡◌, ◌++◌, ◌≤◌, map, IfOk, IsTrue};
 ghost use Rattle.std.specs.List.{list_all};
-ghost use Rattle.sequence.specs.Numbers.{IsDistinct};
+ghost use Rattle.base_library.specs.Numbers.{IsDistinct};
 ghost use Rattle.tsl_terms.specs.WindowTree.{window_tree};
 ghost use Rattle.program_tree.specs.declared.limits.TheConstants.{MOST_STATES};
 ghost use Rattle.program_tree.specs.Fits.{window_fits};
@@ -20,7 +20,7 @@ use crate::sharing::shared_trees;
 use letter_space::Space;
 use machines::Controller;
 use program_tree::{Node, Program};
-use sequence::{NoMemory, Sequence};
+use base_library::{NoMemory, Sequence};
 use std::alloc::Global;
 use tsl_terms::{SignalLists, Window};
 

@@ -11,7 +11,7 @@ ghost use Rattle.tsl_meaning.specs.Interpretation.{InputRows};
 ghost use Rattle.tsl_meaning.specs.Run.{Closed};
 ghost use Rattle.ltl_formula.specs.LetterLoop.{LetterLoop};
 ghost use Rattle.letter_space.specs.SpaceTree.{SpaceTree, IsSpace};
-ghost use Rattle.sequence.specs.Once.{StandOnce};
+ghost use Rattle.base_library.specs.Once.{StandOnce};
 ghost use Rattle.letter_space.specs.Letters.{valuation_count};
 ghost use Rattle.machines.specs.MachineTree.{EntryTree, ControllerTree, IsController, controller_entry};
 ghost use Rattle.machines.specs.Moves.{FitsSpace};

@@ -2,7 +2,7 @@
 
 ghost use Rattle.std.specs.Prelude.{◌≡◌, ◌<◌, ◌^◌, ◌==◌, length, map, Some, slice_get, position, IfOk, IsTrue};
 ghost use Rattle.std.specs.List.{AllByRecursion};
-ghost use Rattle.sequence.specs.Numbers.{is_among};
+ghost use Rattle.base_library.specs.Numbers.{is_among};
 ghost use Rattle.tsl_terms.specs.TermTree.{term_tree};
 ghost use Rattle.program_tree.specs.NodeTree.{node_tree};
 ghost use Rattle.letter_space.specs.ControlledView.{controlled_tree};
@@ -15,7 +15,7 @@ ghost use Rattle.control_flow_model.specs.internal.PartNodes.{key_node, HasNode}
 use crate::parting::Part;
 use letter_space::{Controlled, Space};
 use program_tree::Node;
-use sequence::{NoMemory, Sequence};
+use base_library::{NoMemory, Sequence};
 use std::alloc::Global;
 use tsl_terms::{Term, copy_probe, copy_term};
 

@@ -1,14 +1,14 @@
 //! Decision trees as parts with numbers.
 
 ghost use Rattle.std.specs.Prelude.{◌≡◌, ℕ, ◌∷◌, ◌+◌, ◌<◌, ◌^◌, [], length, Some, slice_get, IfOk, OnOk};
-ghost use Rattle.sequence.specs.Kept.{with_new};
+ghost use Rattle.base_library.specs.Kept.{with_new};
 ghost use Rattle.machines.specs.MachineView.{entry_tree, controller_tree};
 ghost use Rattle.control_flow_model.specs.DecisionTree.{leaf};
 ghost use Rattle.control_flow_model.specs.internal.Parts.{part_key, part_keys, same_key, fork_key, AddsTree, AddsDecision};
 
 use indexmap::IndexSet;
 use machines::{Controller, Entry};
-use sequence::NoMemory;
+use base_library::NoMemory;
 use std::alloc::Global;
 
 /// A part of decision trees: an entry, or the test of a bit with the numbers of its branches.

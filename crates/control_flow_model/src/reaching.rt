@@ -1,14 +1,14 @@
 //! The states that a controller reaches.
 
 ghost use Rattle.std.specs.Prelude.{◌≡◌, ◌∷◌, ◌++◌, ◌<◌, [], length, filter, nat_eq, if◌then◌else◌, IfOk, OnOk};
-ghost use Rattle.sequence.specs.Kept.{with_new};
-ghost use Rattle.sequence.specs.Numbers.{is_among};
+ghost use Rattle.base_library.specs.Kept.{with_new};
+ghost use Rattle.base_library.specs.Numbers.{is_among};
 ghost use Rattle.machines.specs.MachineView.{controller_tree};
 ghost use Rattle.control_flow_model.specs.Flow.{AreKept};
 ghost use Rattle.control_flow_model.specs.internal.Reaching.{AddsNext, AreFound};
 
 use machines::Controller;
-use sequence::NoMemory;
+use base_library::NoMemory;
 use std::alloc::Global;
 
 /// Adds a state at the end of others where it is not there.

@@ -10,7 +10,7 @@ use crate::parting::{Part, number_of_tree};
 use indexmap::IndexSet;
 use letter_space::Space;
 use machines::Controller;
-use sequence::NoMemory;
+use base_library::NoMemory;
 use std::alloc::Global;
 
 /// The parts of the trees of states, and the number of each state's tree.

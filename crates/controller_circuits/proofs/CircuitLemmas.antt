@@ -6,7 +6,7 @@ use Rattle.std.proofs.lemmas.Nat.{pow_pos, pow-add, div-mul-add, mod-mul-add, mu
 use Rattle.std.proofs.lemmas.Bool.{lt-ltb, ltb-true}
 use Rattle.std.proofs.lemmas.List.{length-map}
 use Rattle.std.proofs.lemmas.Option.{none-some, same_Some, slice_get_within}
-use Rattle.sequence.proofs.Places.{slice_get_some, slice_get_mapped, slice_get_one}
+use Rattle.base_library.proofs.Places.{slice_get_some, slice_get_mapped, slice_get_one}
 use Rattle.ltl_formula.specs.Cubes.{has_bit}
 use Rattle.letter_space.specs.SpaceTree.{SpaceTree, choice_count}
 use Rattle.letter_space.specs.Letters.{valuation_count, letter_of}

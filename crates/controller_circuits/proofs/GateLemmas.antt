@@ -6,7 +6,7 @@ use Rattle.std.proofs.lemmas.Option.{slice_get_within, slice_get-map}
 use Rattle.std.specs.Prelude.{option_map}
 use Rattle.std.proofs.lemmas.Bool.{eqb-true, and_parts}
 use Rattle.std.proofs.lemmas.List.{map_push}
-use Rattle.sequence.proofs.Places.{slice_get_push}
+use Rattle.base_library.proofs.Places.{slice_get_push}
 use Rattle.circuits.specs.declared.gate.Gate.{Gate}
 use Rattle.circuits.specs.GateView.{gate_tree}
 use Rattle.circuits.specs.Circuits.{GateTree, IsLiteral, truth, with_gates}

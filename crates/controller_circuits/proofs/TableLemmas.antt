@@ -7,7 +7,7 @@ use Rattle.std.proofs.lemmas.Nat.Bits.{bit_at-lt}
 use Rattle.std.proofs.lemmas.Option.{none-some, slice_get_within, slice_get-get_or, get_or_from_slice_get, slice_get-map}
 use Rattle.std.specs.Prelude.{option_map}
 use Rattle.std.proofs.lemmas.List.{length_push}
-use Rattle.sequence.proofs.Places.{slice_get_push, slice_get_mapped}
+use Rattle.base_library.proofs.Places.{slice_get_push, slice_get_mapped}
 use Rattle.ltl_formula.specs.Cubes.{has_bit}
 use Rattle.circuits.specs.Circuits.{IsLiteral, AreLiterals, truth}
 use Rattle.controller_circuits.specs.Bits.{binary_digits}

@@ -6,7 +6,7 @@ ghost use Rattle.controller_circuits.specs.internal.Joining.{AreGates, negated_l
 
 use circuits::Gate;
 use indexmap::IndexSet;
-use sequence::NoMemory;
+use base_library::NoMemory;
 use std::alloc::Global;
 
 /// Gates over variables that stand before them. No gate stands twice.

@@ -8,7 +8,7 @@ ghost use Rattle.controller_circuits.specs.internal.Gates.{gates_tree, variables
 ghost use Rattle.controller_circuits.specs.internal.Tables.{AreAll, AreChosen, AreTested, AreOfWords};
 
 use crate::gates::Gates;
-use sequence::NoMemory;
+use base_library::NoMemory;
 use std::alloc::Global;
 
 /// A literal for each two neighbours: the second where the test is true.

@@ -13,7 +13,7 @@ use crate::tables::{digits_for, letters_of, next_states, update_count};
 use circuits::Circuit;
 use letter_space::Space;
 use machines::Controller;
-use sequence::{NoMemory, Sequence};
+use base_library::{NoMemory, Sequence};
 use std::alloc::Global;
 
 /// The circuit of a controller: in each state and under each valuation its outputs are the updates that the

@@ -12,7 +12,7 @@ ghost use Rattle.controller_circuits.specs.internal.Tables.{padded_entry};
 
 use letter_space::Space;
 use machines::{Controller, Entry};
-use sequence::NoMemory;
+use base_library::NoMemory;
 use std::alloc::Global;
 
 /// How many binary digits tell so many states apart.

@@ -1,7 +1,7 @@
 -- What is read number by number is what the definitions read in states and under vectors.
 use Rattle.std.proofs.Common.{◌≡◌, ◌∙◌, ℕ, ◌+◌, ◌*◌, ◌/◌, ◌%◌, ◌<◌, ◌≤◌, Bool, List, slice_get, sym, ap, subst}
-use Rattle.sequence.proofs.Lists.{map_agree}
-use Rattle.sequence.proofs.Places.{slice_get_mapped}
+use Rattle.base_library.proofs.Lists.{map_agree}
+use Rattle.base_library.proofs.Places.{slice_get_mapped}
 use Rattle.machines.specs.MachineTree.{NameStates}
 use Rattle.bounded_encoding.specs.ClauseLists.{below}
 use Rattle.bounded_encoding.specs.Question.{QuestionTree}

@@ -4,8 +4,8 @@ use Rattle.std.proofs.Common.{option_map, option_and_then, refl, sym, ap, subst,
 use Rattle.std.specs.List.{range_with_len}
 use Rattle.std.proofs.lemmas.Option.{same_Some}
 use Rattle.std.proofs.lemmas.List.FromFn.{length-map-range_with_len}
-use Rattle.sequence.proofs.Each.{each_from_places, each_map}
-use Rattle.sequence.proofs.Places.{slice_get_mapped}
+use Rattle.base_library.proofs.Each.{each_from_places, each_map}
+use Rattle.base_library.proofs.Places.{slice_get_mapped}
 use Rattle.clause_core.specs.Clauses.{meets_all}
 use Rattle.ltl_formula.specs.Cubes.{has_bit, cube_matches}
 use Rattle.letter_space.specs.Letters.{valuation_count, letter_of}

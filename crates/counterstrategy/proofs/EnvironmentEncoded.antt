@@ -2,8 +2,8 @@
 use Rattle.std.proofs.Common.{◌≡◌, ◌∙◌, ℕ, ◌+◌, ◌-◌, ◌*◌, ◌<◌, ◌≤◌, ◌==◌, Bool, true, false, Option, Some, slice_get, Contains}
 use Rattle.std.proofs.Common.{option_map, option_and_then, sym, ap, arith}
 use Rattle.std.specs.Option.{option_map_or}
-use Rattle.sequence.proofs.Each.{each_at}
-use Rattle.sequence.proofs.Places.{slice_get_some}
+use Rattle.base_library.proofs.Each.{each_at}
+use Rattle.base_library.proofs.Places.{slice_get_some}
 use Rattle.clause_core.specs.Clauses.{meets_all}
 use Rattle.ltl_formula.specs.Cubes.{has_bit, cube_matches}
 use Rattle.letter_space.specs.Letters.{valuation_count, letter_of}

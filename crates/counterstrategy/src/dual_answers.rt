@@ -4,7 +4,7 @@ use annotation_check::Annotation;
 use clause_core::Clause;
 use machines::Environment;
 use refutation_check::Log;
-use sequence::Sequence;
+use base_library::Sequence;
 
 /// What a search for an environment came to.
 #[derive(Drop)]

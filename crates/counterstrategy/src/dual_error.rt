@@ -1,6 +1,6 @@
 //! Why a question for an environment has no answer.
 
-use sequence::NoMemory;
+use base_library::NoMemory;
 use std::alloc::AllocFailed;
 use thiserror::Error;
 

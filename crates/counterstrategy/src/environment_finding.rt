@@ -19,7 +19,7 @@ use bounded_encoding::annotation_read;
 use cobuchi_automata::Automaton;
 use letter_space::Space;
 use sat_core::{Answer, solve};
-use sequence::NoMemory;
+use base_library::NoMemory;
 use std::alloc::Global;
 
 /// Looks for an environment with so many states and an annotation within a bound, where so many

@@ -13,7 +13,7 @@ ghost use Rattle.counterstrategy.specs.internal.DualReading.{truths_from, succes
 use bounded_encoding::first_true;
 use letter_space::Space;
 use machines::Environment;
-use sequence::{NoMemory, Sequence};
+use base_library::{NoMemory, Sequence};
 use std::alloc::Global;
 
 /// A number with one more bit where a test says so.

@@ -15,7 +15,7 @@ use bounded_encoding::{
     Builder, EncodeError, Frame, Side, add_side, push_number_if, variables_in_all,
 };
 use cobuchi_automata::Edge;
-use sequence::NoMemory;
+use base_library::NoMemory;
 use std::alloc::Global;
 
 /// The letter of what a vector picks.

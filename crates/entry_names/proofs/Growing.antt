@@ -1,6 +1,6 @@
 -- Numbers of names that grow by one in each round of a loop.
 use Rattle.std.proofs.Common.{◌≡◌, ◌∙◌, ℕ, ◌+◌, ◌<◌, List, [], ◌∷◌, ◌++◌, length, map, take, get_or, Option, Some, sym, ap}
-use Rattle.sequence.proofs.Lists.{map_map, alike_push}
+use Rattle.base_library.proofs.Lists.{map_map, alike_push}
 
 module _ {U V : Type 0} (view : U → V) (number : V → Option ℕ) where
   pub numbers_more : (xs : List U) (i : ℕ) (d : U) (ns : List ℕ) (n : ℕ) → i < length xs → number (view (get_or xs i d)) ≡ Some n →

@@ -6,11 +6,11 @@ use Rattle.std.specs.List.{find, list_any}
 use Rattle.std.proofs.lemmas.Bool.{eqb-true, not-false}
 use Rattle.std.proofs.lemmas.List.{length-map}
 use Rattle.std.proofs.lemmas.Option.{none-some, same_Some, slice_get_within}
-use Rattle.sequence.proofs.Lists.{heads, tails, map_map}
-use Rattle.sequence.specs.Numbers.{is_among}
-use Rattle.sequence.specs.Options.{passes}
-use Rattle.sequence.proofs.Booleans.{eqb_self, not_not}
-use Rattle.sequence.proofs.Numbers.{among_at}
+use Rattle.base_library.proofs.Lists.{heads, tails, map_map}
+use Rattle.base_library.specs.Numbers.{is_among}
+use Rattle.base_library.specs.Options.{passes}
+use Rattle.base_library.proofs.Booleans.{eqb_self, not_not}
+use Rattle.base_library.proofs.Numbers.{among_at}
 use Rattle.tsl_terms.specs.Name.{Name}
 use Rattle.entry_names.specs.Needed.{number_for, is_for}
 use Rattle.entry_names.specs.Places.{IsPlace}

@@ -8,13 +8,13 @@ use Rattle.std.specs.Str.{bytes_eq}
 use Rattle.std.proofs.lemmas.Bool.{and_parts, eqb-true}
 use Rattle.std.proofs.lemmas.Option.{none-some, same_Some}
 use Rattle.std.proofs.lemmas.List.Elements.{All-from_recursion, recursion_from_All}
-use Rattle.sequence.proofs.Booleans.{same_tests}
-use Rattle.sequence.proofs.Each.{each_filtered, each_joined, each_weaker}
-use Rattle.sequence.proofs.Passes.{filter_has, each_from_list_all, within_from_test}
-use Rattle.sequence.proofs.Places.{slice_get_grown}
-use Rattle.sequence.proofs.Numbers.{numbers_below, numbers_at}
-use Rattle.sequence.specs.Numbers.{numbers_from}
-use Rattle.sequence.specs.Options.{passes}
+use Rattle.base_library.proofs.Booleans.{same_tests}
+use Rattle.base_library.proofs.Each.{each_filtered, each_joined, each_weaker}
+use Rattle.base_library.proofs.Passes.{filter_has, each_from_list_all, within_from_test}
+use Rattle.base_library.proofs.Places.{slice_get_grown}
+use Rattle.base_library.proofs.Numbers.{numbers_below, numbers_at}
+use Rattle.base_library.specs.Numbers.{numbers_from}
+use Rattle.base_library.specs.Options.{passes}
 use Rattle.tsl_terms.specs.declared.names.NameKind.TheVariants.{Signal, Function, Predicate}
 use Rattle.tsl_terms.specs.Name.{Name, is_name, same_kind}
 use Rattle.tsl_terms.specs.Equality.{is_equality, names_equality}

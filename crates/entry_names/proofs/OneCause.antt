@@ -1,7 +1,7 @@
 -- Causes by which entries are refused, each of them one.
 use Rattle.std.proofs.Common.{ℕ, List, Option}
 use Rattle.std.specs.Prelude.{◌≢◌, slice_get}
-use Rattle.sequence.proofs.Causes.{Causes, found, told_with, told, and_then}
+use Rattle.base_library.proofs.Causes.{Causes, found, told_with, told, and_then}
 use Rattle.tsl_text.specs.declared.Token.{Token}
 use Rattle.table_syntax.specs.Syntax.{TextToken}
 use Rattle.table_syntax.specs.Forms.{IsRead, HasTextFault}

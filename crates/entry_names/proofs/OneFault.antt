@@ -6,7 +6,7 @@ use Rattle.tsl_terms.specs.Name.{Name}
 use Rattle.entry_names.specs.declared.locating.EntryFault.{EntryFault}
 use Rattle.entry_names.specs.declared.locating.EntryFault.TheVariants.{Unknown, Twice, Missing, NoMemory}
 use Rattle.entry_names.specs.Entries.{Subject, is_known, numbers_of, has_no_entry, AreWhole, HasEntryFault}
-use Rattle.sequence.proofs.Causes.{Causes}
+use Rattle.base_library.proofs.Causes.{Causes}
 use Rattle.entry_names.proofs.OneCause.{misnamed}
 
 module _ (names : List Name) (needed : List ℕ) (entries : List Subject) where

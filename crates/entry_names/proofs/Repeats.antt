@@ -3,7 +3,7 @@ use Rattle.std.proofs.Common.{◌≡◌, ◌∙◌, ℕ, List, map, Option, Some
 use Rattle.std.proofs.lemmas.Bool.{cases_lt}
 use Rattle.std.specs.Prelude.{option_map, slice_get}
 use Rattle.std.proofs.lemmas.Option.{same_Some, slice_get-map}
-use Rattle.sequence.proofs.Options.{some_mapped}
+use Rattle.base_library.proofs.Options.{some_mapped}
 use Rattle.entry_names.specs.Needed.{IsRepeat, IsFirstRepeat, HasNoRepeat}
 
 slice_some : (ns : List ℕ) (k n : ℕ) → slice_get ns k ≡ Some n → slice_get (map (λ (n : ℕ). Some n) ns) k ≡ Some (Some n)

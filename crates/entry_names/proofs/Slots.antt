@@ -7,12 +7,12 @@ use Rattle.std.proofs.lemmas.List.{take_more, length-replicate, length-set}
 use Rattle.std.proofs.lemmas.Option.{none-some, same_Some, slice_get-get_or}
 use Rattle.std.proofs.Math.Bool.{or-false, or-true}
 use Rattle.std.proofs.lemmas.List.{length-take-le}
-use Rattle.sequence.proofs.Numbers.{among_push}
-use Rattle.sequence.proofs.Places.{slice_get-replicate}
-use Rattle.sequence.specs.Numbers.{is_among}
-use Rattle.sequence.proofs.Booleans.{eqb_self}
-use Rattle.sequence.proofs.Numbers.{among_at}
-use Rattle.sequence.proofs.Places.{slice_get_grown, slice_get_push, slice_get-take, slice_get_taken, slice_get_set, slice_get_set_same, slice_get-behind}
+use Rattle.base_library.proofs.Numbers.{among_push}
+use Rattle.base_library.proofs.Places.{slice_get-replicate}
+use Rattle.base_library.specs.Numbers.{is_among}
+use Rattle.base_library.proofs.Booleans.{eqb_self}
+use Rattle.base_library.proofs.Numbers.{among_at}
+use Rattle.base_library.proofs.Places.{slice_get_grown, slice_get_push, slice_get-take, slice_get_taken, slice_get_set, slice_get_set_same, slice_get-behind}
 use Rattle.entry_names.specs.Needed.{IsFirstRepeat, HasNoRepeat}
 use Rattle.entry_names.specs.Places.{AreMarksOf, IsPlace, ArePlaces}
 

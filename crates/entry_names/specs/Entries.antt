@@ -2,8 +2,8 @@
 -- that have none of those before it.
 use Rattle.std.specs.Prelude.{◌≡◌, ℕ, Bool, not, ◌&&◌, List, length, map, Option, Some, None, slice_get}
 use Rattle.std.specs.List.{find, list_any}
-use Rattle.sequence.specs.Numbers.{is_among}
-use Rattle.sequence.specs.Options.{passes}
+use Rattle.base_library.specs.Numbers.{is_among}
+use Rattle.base_library.specs.Options.{passes}
 use Rattle.tsl_terms.specs.declared.names.NameKind.{NameKind}
 use Rattle.tsl_terms.specs.declared.names.NameKind.TheVariants.{Signal}
 use Rattle.tsl_terms.specs.Name.{Name, same_kind}

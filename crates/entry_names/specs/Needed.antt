@@ -1,7 +1,7 @@
 -- The names that an interpretation is for, and names that stand twice.
 use Rattle.std.specs.Prelude.{◌≡◌, ℕ, ◌<◌, ◌==◌, Bool, not, ◌&&◌, List, ◌++◌, length, filter, Option, Some, slice_get}
-use Rattle.sequence.specs.Numbers.{numbers_from}
-use Rattle.sequence.specs.Options.{passes}
+use Rattle.base_library.specs.Numbers.{numbers_from}
+use Rattle.base_library.specs.Options.{passes}
 use Rattle.tsl_terms.specs.Name.{Name, number_of}
 use Rattle.tsl_terms.specs.Equality.{is_equality}
 use Rattle.table_syntax.specs.Syntax.{TextToken, has_table}

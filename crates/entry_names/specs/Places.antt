@@ -1,6 +1,6 @@
 -- Tables with a slot for each number.
 use Rattle.std.specs.Prelude.{◌≡◌, ℕ, ◌<◌, Bool, false, List, length, Option, Some, None, slice_get}
-use Rattle.sequence.specs.Numbers.{is_among}
+use Rattle.base_library.specs.Numbers.{is_among}
 use Rattle.entry_names.specs.declared.numbering.RepeatFault.{RepeatFault}
 use Rattle.entry_names.specs.declared.numbering.RepeatFault.TheVariants.{Repeat, NoMemory}
 use Rattle.entry_names.specs.Needed.{IsFirstRepeat}

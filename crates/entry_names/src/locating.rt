@@ -2,7 +2,7 @@
 
 ghost use Rattle.std.specs.Prelude.{◌≡◌, ◌<◌, Some, is_some, option_map, length, map, slice_get, All, IfOk, IfErr, IfSome, IsSomeAnd};
 ghost use Rattle.std.specs.List.{find};
-ghost use Rattle.sequence.specs.Options.{passes};
+ghost use Rattle.base_library.specs.Options.{passes};
 ghost use Rattle.table_syntax.specs.View.{text_token_view};
 ghost use Rattle.entry_names.specs.Needed.{number_for, is_for};
 ghost use Rattle.entry_names.specs.Places.{AreMarksOf};
@@ -10,7 +10,7 @@ ghost use Rattle.entry_names.specs.Entries.{is_needed_as, numbers_of, has_no_ent
 
 use crate::named::Named;
 use crate::numbering::{RepeatFault, marks, place_of, places};
-use sequence::NoMemory;
+use base_library::NoMemory;
 use std::alloc::{AllocFailed, Global};
 use table_syntax::TextToken;
 use tsl_terms::{NameKind, Names, same_kind};

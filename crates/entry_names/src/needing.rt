@@ -5,7 +5,7 @@ ghost use Rattle.tsl_terms.specs.Equality.{is_equality};
 ghost use Rattle.table_syntax.specs.Syntax.{has_table};
 ghost use Rattle.entry_names.specs.Needed.{is_symbol_number, needed};
 
-use sequence::NoMemory;
+use base_library::NoMemory;
 use std::alloc::Global;
 use tsl_terms::{NameKind, Names, equality_of};
 

@@ -4,7 +4,7 @@ ghost use Rattle.std.specs.Prelude.{◌≡◌, ◌<◌, length, slice_get, Some,
 ghost use Rattle.entry_names.specs.Needed.{HasNoRepeat};
 ghost use Rattle.entry_names.specs.Places.{AreMarksOf, ArePlaces, IsRepeatFault};
 
-use sequence::NoMemory;
+use base_library::NoMemory;
 use std::alloc::Global;
 
 /// For each of so many numbers whether it is among these. An `Err` says that memory ran out.

@@ -18,7 +18,7 @@ ghost use Rattle.environment_text.specs.EnvironmentText.{controlled_is_held, spa
 
 use letter_space::{Controlled, Space};
 use machines::Environment;
-use sequence::NoMemory;
+use base_library::NoMemory;
 use std::alloc::Global;
 use term_text::{put_probe, put_update};
 use tsl_terms::{Names, Probe};

@@ -11,7 +11,7 @@ ghost use Rattle.environment_text.specs.RoundTexts.{round_text, rounds_text, Rou
 use crate::environment::{put_count, put_environment};
 use letter_space::Space;
 use machines::Round;
-use sequence::NoMemory;
+use base_library::NoMemory;
 use std::alloc::Global;
 use term_text::put_window;
 use tsl_terms::{Names, Window};

@@ -10,13 +10,13 @@ use Rattle.std.proofs.lemmas.Grind.{common_steps}
 use Rattle.std.proofs.lemmas.Bool.{or_cases, and_parts, ltb-true, lt-ltb, eqb-true}
 use Rattle.std.proofs.lemmas.Option.{slice_get-map, slice_get_within, get_or_from_slice_get}
 use Rattle.std.proofs.lemmas.List.Sums.{fails_before_first}
-use Rattle.sequence.proofs.Booleans.{same_tests}
-use Rattle.sequence.proofs.Bytes.{bytes_same}
-use Rattle.sequence.proofs.Numbers.{among_at, among_place, distinct_front, distinct_behind}
-use Rattle.sequence.proofs.Options.{some_is}
-use Rattle.sequence.proofs.Places.{slice_get_mapped}
-use Rattle.sequence.specs.Numbers.{is_among, IsDistinct}
-use Rattle.sequence.specs.Options.{all_there}
+use Rattle.base_library.proofs.Booleans.{same_tests}
+use Rattle.base_library.proofs.Bytes.{bytes_same}
+use Rattle.base_library.proofs.Numbers.{among_at, among_place, distinct_front, distinct_behind}
+use Rattle.base_library.proofs.Options.{some_is}
+use Rattle.base_library.proofs.Places.{slice_get_mapped}
+use Rattle.base_library.specs.Numbers.{is_among, IsDistinct}
+use Rattle.base_library.specs.Options.{all_there}
 use Rattle.tsl_terms.specs.Name.{number_of, Name as NameEntry}
 use Rattle.tsl_terms.specs.WindowTree.{ListedTree}
 use Rattle.term_text.specs.TermText.{name_text}
@@ -26,8 +26,8 @@ use Rattle.program_listing.specs.Listing.{name_bytes, ListedLine}
 use Rattle.flow_program.specs.Rules.{places_rise, place_in, place_of_cell, listed_rise, is_cell_within}
 use Rattle.flow_program.specs.internal.Numbering.{small, numbered, numbered_term, numbered_listed}
 use Rattle.flow_program.proofs.NumberLemmas.{place_at, there_at, small_same, number_text, numbered_texts}
-use Rattle.sequence.proofs.ValuesOfOptions.{held, map_holds, then_holds}
-use Rattle.sequence.proofs.PairedLists.{Paired, none, next, paired_there, all_alike}
+use Rattle.base_library.proofs.ValuesOfOptions.{held, map_holds, then_holds}
+use Rattle.base_library.proofs.PairedLists.{Paired, none, next, paired_there, all_alike}
 
 -- ---- places of texts
 

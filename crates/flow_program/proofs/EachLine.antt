@@ -3,7 +3,7 @@ use Rattle.std.proofs.Common.{◌≡◌, ℕ, suc, Bool, true, List, [], ◌∷�
 use Rattle.std.specs.Prelude.{flat_map}
 use Rattle.std.specs.List.{list_all, AllByRecursion}
 use Rattle.std.proofs.lemmas.Bool.{and_parts}
-use Rattle.sequence.proofs.Each.{each_left, each_right}
+use Rattle.base_library.proofs.Each.{each_left, each_right}
 use Rattle.program_listing.specs.LineText.{Piece}
 use Rattle.program_listing.proofs.ListingFacts.{pieces_text}
 use Rattle.flow_program.specs.Uses.{ProgramUse, line_uses}

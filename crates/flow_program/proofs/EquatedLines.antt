@@ -5,13 +5,13 @@ use Rattle.std.specs.Prelude.{Some, option_map, slice_get, nat_le, nat_lt, codes
 use Rattle.std.specs.List.{list_all, AllByRecursion}
 use Rattle.std.proofs.lemmas.Bool.{and_parts, and_from, eqb-true, false≢true}
 use Rattle.std.proofs.lemmas.Option.{slice_get-map}
-use Rattle.sequence.specs.Options.{all_there}
-use Rattle.sequence.proofs.Booleans.{same_tests}
-use Rattle.sequence.proofs.Bytes.{same_bytes, bytes_same}
-use Rattle.sequence.proofs.Each.{each_weaker}
-use Rattle.sequence.proofs.Passes.{each_from_list_all}
+use Rattle.base_library.specs.Options.{all_there}
+use Rattle.base_library.proofs.Booleans.{same_tests}
+use Rattle.base_library.proofs.Bytes.{same_bytes, bytes_same}
+use Rattle.base_library.proofs.Each.{each_weaker}
+use Rattle.base_library.proofs.Passes.{each_from_list_all}
 use Rattle.std.proofs.Math.Bool.{and-true}
-use Rattle.sequence.proofs.Options.{one_value, some_passes}
+use Rattle.base_library.proofs.Options.{one_value, some_passes}
 use Rattle.tsl_terms.specs.declared.names.NameKind.TheVariants.{Predicate}
 use Rattle.tsl_terms.specs.Name.{number_of, texts, question, is_name, AreDistinct, Name as NameEntry}
 use Rattle.tsl_terms.specs.TermTree.{TermTrees, ProbeTree, count_of_terms}
@@ -28,8 +28,8 @@ use Rattle.program_tree.specs.Fits.{may_follow as may_stand_behind, are_in_order
 use Rattle.flow_program.specs.Rules.{same_surface, same_surfaces, is_equality_test, is_equality_within, may_follow, are_in_order}
 use Rattle.flow_program.specs.internal.Numbering.{small, numbered, numbered_term, numbered_terms, numbered_test, numbered_equated}
 use Rattle.flow_program.proofs.NumberLemmas.{place_at, small_same}
-use Rattle.sequence.proofs.ValuesOfOptions.{Holds, held, map_holds, then_holds}
-use Rattle.sequence.proofs.PairedLists.{Paired, none, next, paired_there, paired_with, all_alike}
+use Rattle.base_library.proofs.ValuesOfOptions.{Holds, held, map_holds, then_holds}
+use Rattle.base_library.proofs.PairedLists.{Paired, none, next, paired_there, paired_with, all_alike}
 
 module _ (names : List NameEntry) (text : List ℕ) where
   -- ---- parts of what has numbers

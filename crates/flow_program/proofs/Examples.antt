@@ -13,7 +13,7 @@ use Rattle.term_text.specs.WindowText.{window_text}
 use Rattle.program_tree.specs.NodeTree.{branch, assign}
 use Rattle.program_tree.specs.ProgramTree.{ProgramTree}
 use Rattle.program_tree.specs.Walk.{walk}
-use Rattle.sequence.specs.Numbers.{IsDistinct}
+use Rattle.base_library.specs.Numbers.{IsDistinct}
 use Rattle.tsl_terms.specs.OnlyThese.{reads_only}
 use Rattle.program_tree.specs.Fits.{BranchesFit, AssignmentsFit, window_is_shaped, window_reads_only}
 use Rattle.program_tree.specs.Fits.{IsProgram}

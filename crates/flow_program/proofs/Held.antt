@@ -6,7 +6,7 @@ use Rattle.tsl_terms.specs.declared.names.NameKind.TheVariants.{Signal}
 use Rattle.tsl_terms.specs.Name.{Name}
 use Rattle.tsl_terms.specs.TermTree.{TermTree, ProbeTree}
 use Rattle.tsl_terms.specs.WindowTree.{WindowTree, ListedTree, window_probes}
-use Rattle.sequence.proofs.Passes.{list_all_weaker}
+use Rattle.base_library.proofs.Passes.{list_all_weaker}
 use Rattle.term_text.specs.TermText.{is_held, term_is_held, probe_is_held}
 use Rattle.term_text.specs.WindowText.{listed_is_held, window_is_held}
 use Rattle.term_text.proofs.Held.{name_held, term_held, probe_held}

@@ -4,9 +4,9 @@ use Rattle.std.specs.Prelude.{Option, Some, slice_get, flat_map, IsTrue}
 use Rattle.std.specs.List.{list_all, AllByRecursion}
 use Rattle.std.specs.Option.{option_map_or}
 use Rattle.std.proofs.lemmas.Bool.{and_parts, or_left, not-false}
-use Rattle.sequence.proofs.Each.{each_left, each_right, each_at, each_from_places}
-use Rattle.sequence.proofs.Passes.{passes_at, list_all_joined}
-use Rattle.sequence.specs.Numbers.{is_among}
+use Rattle.base_library.proofs.Each.{each_left, each_right, each_at, each_from_places}
+use Rattle.base_library.proofs.Passes.{passes_at, list_all_joined}
+use Rattle.base_library.specs.Numbers.{is_among}
 use Rattle.tsl_text.specs.Names.{is_usable}
 use Rattle.tsl_terms.specs.declared.names.NameKind.TheVariants.{Predicate}
 use Rattle.tsl_terms.specs.Name.{Name, same_kind, question, AreDistinct}

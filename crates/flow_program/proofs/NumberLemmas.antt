@@ -4,7 +4,7 @@ use Rattle.std.specs.Prelude.{ℕ, Option, Some, None, option_map, slice_get, by
 use Rattle.std.specs.Option.{option_map_or}
 use Rattle.std.proofs.lemmas.Bool.{lt-ltb}
 use Rattle.std.proofs.lemmas.Grind.{common_steps}
-use Rattle.sequence.proofs.Places.{slice_get_mapped}
+use Rattle.base_library.proofs.Places.{slice_get_mapped}
 use Rattle.term_text.specs.TermText.{name_text}
 use Rattle.program_listing.specs.declared.listing.Name.{Name as Place}
 use Rattle.program_listing.specs.Listing.{name_bytes}
@@ -12,8 +12,8 @@ use Rattle.tsl_terms.specs.Name.{texts, number_of}
 use Rattle.tsl_terms.specs.WindowTree.{WindowTree}
 use Rattle.std.proofs.lemmas.List.Quantifiers.{position-Some}
 use Rattle.std.proofs.lemmas.Option.{slice_get-get_or}
-use Rattle.sequence.proofs.Bytes.{same_bytes}
-use Rattle.sequence.specs.Options.{all_there}
+use Rattle.base_library.proofs.Bytes.{same_bytes}
+use Rattle.base_library.specs.Options.{all_there}
 use Rattle.tsl_terms.specs.declared.term.Term.{Term}
 use Rattle.tsl_terms.specs.Name.{Name}
 use Rattle.tsl_terms.specs.TermTree.{TermTree, ProbeTree, more_terms, term_tree}
@@ -26,8 +26,8 @@ use Rattle.flow_program.specs.internal.Numbering.{small, numbered, numbered_term
 use Rattle.flow_program.specs.Rules.{place_in}
 use Rattle.flow_program.specs.internal.Numbering.{numbered_equated, numbered_left, numbered_window, numbered_node, listed_of, equated_of}
 use Rattle.flow_program.specs.internal.Numbering.{window_of}
-use Rattle.sequence.proofs.ValuesOfOptions.{held, map_holds, then_holds}
-use Rattle.sequence.proofs.PairedLists.{paired_there, paired_at, map_alike}
+use Rattle.base_library.proofs.ValuesOfOptions.{held, map_holds, then_holds}
+use Rattle.base_library.proofs.PairedLists.{paired_there, paired_at, map_alike}
 
 -- the one that is made of the member at a place
 pub there_at : {X Y : Type 0} (f : X → Option Y) (xs : List X) (ys : List Y) (i : ℕ) (x : X) → all_there (map f xs) ≡ Some ys →

@@ -6,13 +6,13 @@ use Rattle.std.specs.List.{AllByRecursion}
 use Rattle.std.proofs.lemmas.Bool.Decides.{nat_tests}
 use Rattle.std.proofs.lemmas.Grind.{common_steps}
 use Rattle.std.proofs.lemmas.List.{map-append}
-use Rattle.sequence.specs.Numbers.{is_among}
+use Rattle.base_library.specs.Numbers.{is_among}
 use Rattle.tsl_terms.specs.TermTree.{TermTree, signal, apply, TermTrees, no_terms, more_terms, ProbeTree}
 use Rattle.tsl_terms.specs.WindowTree.{ListedTree, EquatedTree, WindowTree, right_alone, equality_probes}
 use Rattle.tsl_terms.specs.FreeTree.{FreeTree, leaf_at, applied, FreeTrees, no_free, more_free}
 use Rattle.tsl_terms.specs.OneClass.{PairTree, AreAllIn, IsCongruence, AreInOneClass, AreInOneClasses, pair_of, listed_pairs}
 use Rattle.tsl_terms.specs.Congruence.{IsEquality, SidesAreOne, IsCongruent}
-use Rattle.sequence.proofs.Each.{each_left, each_right, each_map, each_unmapped, each_weaker}
+use Rattle.base_library.proofs.Each.{each_left, each_right, each_map, each_unmapped, each_weaker}
 use Rattle.tsl_terms.specs.Unfolding.{with_leaves, all_with_leaves, leaf_after, signal_unfolded, term_listed, term_taken_by_cell, all_unfolded}
 
 module _ (stands_for : ℕ → ℕ) where

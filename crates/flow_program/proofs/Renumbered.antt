@@ -4,9 +4,9 @@ use Rattle.std.specs.Prelude.{Option, Some, None, option_map, option_and_then, s
 use Rattle.std.specs.List.{AllByRecursion}
 use Rattle.std.specs.Option.{option_map_or}
 use Rattle.std.proofs.lemmas.Option.{slice_get_within}
-use Rattle.sequence.proofs.Each.{each_map, each_unmapped, each_both}
-use Rattle.sequence.proofs.Options.{one_value}
-use Rattle.sequence.proofs.Places.{slice_get_mapped}
+use Rattle.base_library.proofs.Each.{each_map, each_unmapped, each_both}
+use Rattle.base_library.proofs.Options.{one_value}
+use Rattle.base_library.proofs.Places.{slice_get_mapped}
 use Rattle.tsl_terms.specs.Name.{Name, number_of, texts, question, AreDistinct}
 use Rattle.tsl_terms.specs.Equality.{equality_in}
 use Rattle.tsl_terms.specs.Congruence.{IsCongruent}
@@ -22,7 +22,7 @@ use Rattle.flow_program.specs.internal.Numbering.{small, numbered, numbered_term
 use Rattle.flow_program.specs.internal.Numbering.{numbered_listed, numbered_equated, numbered_left}
 use Rattle.flow_program.specs.internal.Numbering.{numbered_window, Numbered}
 use Rattle.flow_program.proofs.NumberLemmas.{place_at}
-use Rattle.sequence.proofs.ValuesOfOptions.{Agree, agreed, itself_agrees, map_agrees, then_agrees, all_agree}
+use Rattle.base_library.proofs.ValuesOfOptions.{Agree, agreed, itself_agrees, map_agrees, then_agrees, all_agree}
 use Rattle.flow_program.proofs.WrittenIsRead.ListingOfProgram.{ListingOfProgram, listing_of_program}
 use Rattle.flow_program.proofs.ReadingLaws.{is_listing_of, names_read_are_distinct}
 use Rattle.flow_program.proofs.Renamed.{renamed, all_renamed, probe_renamed, listed_renamed, equated_renamed, window_renamed}

@@ -6,11 +6,11 @@ use Rattle.std.specs.List.{list_all, AllByRecursion}
 use Rattle.std.proofs.lemmas.Bool.{and_from, and_parts, leb-true, ltb-true, not-false}
 use Rattle.std.proofs.lemmas.List.Folds.{flat_map-map}
 use Rattle.std.proofs.lemmas.Option.{slice_get-map}
-use Rattle.sequence.proofs.Each.{each_at, each_left, each_right, each_joined, each_weaker, each_map}
-use Rattle.sequence.proofs.Passes.{list_all_joined, list_all_from_each}
-use Rattle.sequence.proofs.Places.{slice_get_mapped}
-use Rattle.sequence.specs.Numbers.{IsDistinct}
-use Rattle.sequence.specs.Options.{all_there}
+use Rattle.base_library.proofs.Each.{each_at, each_left, each_right, each_joined, each_weaker, each_map}
+use Rattle.base_library.proofs.Passes.{list_all_joined, list_all_from_each}
+use Rattle.base_library.proofs.Places.{slice_get_mapped}
+use Rattle.base_library.specs.Numbers.{IsDistinct}
+use Rattle.base_library.specs.Options.{all_there}
 use Rattle.tsl_terms.specs.Name.{AreDistinct, Name as NameEntry}
 use Rattle.tsl_terms.specs.TermTree.{ProbeTree, count_of_terms}
 use Rattle.tsl_terms.specs.WindowTree.{WindowTree, ListedTree, EquatedTree, left_probes, right_alone, window_probes, equality_probes}
@@ -34,7 +34,7 @@ use Rattle.flow_program.specs.internal.Numbering.{numbered, numbered_listed, num
 use Rattle.flow_program.specs.internal.Numbering.{numbered_window, listed_of, equated_of, window_of}
 use Rattle.flow_program.proofs.NumberLemmas.{listed_numbered, equated_numbered, window_numbered, small_is}
 pub use Rattle.flow_program.proofs.NumberLemmas.{place_at}
-use Rattle.sequence.proofs.MadeLists.{all_made, each_made, all_pass}
+use Rattle.base_library.proofs.MadeLists.{all_made, each_made, all_pass}
 use Rattle.flow_program.proofs.EachLine.{each_good, all_spelled}
 use Rattle.flow_program.proofs.EquatedLines.{equality_of_test, are_equated, in_order_alike, tests_within, offsets_within}
 use Rattle.flow_program.proofs.CellPlaces.{are_listed, within_alike, rise_alike}

@@ -6,10 +6,10 @@ use Rattle.std.specs.List.{list_all, AllByRecursion}
 use Rattle.std.proofs.lemmas.Bool.{and_parts, ltb-true, not-false}
 use Rattle.std.proofs.lemmas.Grind.{common_steps}
 use Rattle.std.proofs.lemmas.List.{length-map}
-use Rattle.sequence.proofs.Bytes.{same_bytes}
-use Rattle.sequence.proofs.Places.{slice_get_mapped}
-use Rattle.sequence.specs.Options.{all_there}
-use Rattle.sequence.proofs.Gathered.{all_there_next}
+use Rattle.base_library.proofs.Bytes.{same_bytes}
+use Rattle.base_library.proofs.Places.{slice_get_mapped}
+use Rattle.base_library.specs.Options.{all_there}
+use Rattle.base_library.proofs.Gathered.{all_there_next}
 use Rattle.tsl_terms.specs.Name.{Name as NameEntry}
 use Rattle.tsl_terms.specs.TermTree.{TermTree}
 use Rattle.tsl_terms.specs.OnlyThese.{reads_only, read_only}
@@ -24,7 +24,7 @@ use Rattle.flow_program.specs.ProgramText.{updates_text, node_text, nodes_text}
 use Rattle.flow_program.specs.Uses.{update_uses, node_uses}
 use Rattle.flow_program.specs.Rules.{are_texts, breaks_order, goes_nowhere, breaks_updates}
 use Rattle.flow_program.specs.internal.Numbering.{small, numbered_term, numbered_node}
-use Rattle.sequence.proofs.MadeLists.{all_made, all_pass}
+use Rattle.base_library.proofs.MadeLists.{all_made, all_pass}
 use Rattle.flow_program.proofs.EachLine.{each_good}
 use Rattle.flow_program.proofs.NumberLemmas.{branch_numbered, assignment_numbered, small_is}
 use Rattle.flow_program.proofs.ResolvedTerms.{IsUsed, term_of, test_of, GoodTerm, good_term, term_writable, good_test, test_writable}

@@ -8,14 +8,14 @@ use Rattle.std.proofs.lemmas.Bool.{ltb-true, not-false, and_from}
 use Rattle.std.proofs.lemmas.List.{append-nil, map-append, length-map}
 use Rattle.std.proofs.lemmas.List.Folds.{flat_map-map}
 use Rattle.std.proofs.lemmas.Option.{slice_get_within}
-use Rattle.sequence.proofs.Each.{each_at, each_from_places, each_left, each_right, each_weaker}
-use Rattle.sequence.proofs.Numbers.{among_at}
-use Rattle.sequence.specs.Numbers.{is_among, IsDistinct}
-use Rattle.sequence.proofs.Options.{none_mapped, some_is}
+use Rattle.base_library.proofs.Each.{each_at, each_from_places, each_left, each_right, each_weaker}
+use Rattle.base_library.proofs.Numbers.{among_at}
+use Rattle.base_library.specs.Numbers.{is_among, IsDistinct}
+use Rattle.base_library.proofs.Options.{none_mapped, some_is}
 use Rattle.std.proofs.lemmas.Bool.Decides.{nat_tests}
 use Rattle.std.proofs.lemmas.Grind.{common_steps}
-use Rattle.sequence.proofs.Finds.{find_none_at}
-use Rattle.sequence.proofs.Passes.{list_all_joined, passes_at}
+use Rattle.base_library.proofs.Finds.{find_none_at}
+use Rattle.base_library.proofs.Passes.{list_all_joined, passes_at}
 use Rattle.tsl_text.specs.Names.{is_usable}
 use Rattle.tsl_terms.specs.Name.{AreDistinct, is_name, Name as NameEntry}
 use Rattle.tsl_terms.specs.Clashes.{alike_in_kind, same_arity}
@@ -47,7 +47,7 @@ use Rattle.flow_program.proofs.SpelledLines.{listing_spelled, states_spelled}
 use Rattle.flow_program.proofs.UsesStand.{uses_usable}
 use Rattle.flow_program.proofs.WithUses.{are_first}
 use Rattle.flow_program.proofs.CellPlaces.{place_of_number, second_once}
-use Rattle.sequence.proofs.MadeLists.{all_made, each_made, all_pass}
+use Rattle.base_library.proofs.MadeLists.{all_made, each_made, all_pass}
 use Rattle.flow_program.proofs.EachLine.{lines_apart, all_spelled}
 use Rattle.flow_program.proofs.ResolvedTerms.{number_in, HasNumber, has_number, IsUsed, is_used, number_at}
 use Rattle.flow_program.proofs.ResolvedLines.{numbers_at, IsDeclared, numbers_spelled, all_numbered, numbers_fit, declared_text}

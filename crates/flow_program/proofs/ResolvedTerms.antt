@@ -7,9 +7,9 @@ use Rattle.std.specs.Str.{bytes_eq}
 use Rattle.std.proofs.lemmas.Bool.{and_from, and_parts}
 use Rattle.std.proofs.lemmas.Grind.{common_steps}
 use Rattle.std.proofs.lemmas.List.{append-nil}
-use Rattle.sequence.proofs.Bytes.{same_bytes}
-use Rattle.sequence.proofs.Each.{each_left, each_right}
-use Rattle.sequence.specs.Numbers.{is_among}
+use Rattle.base_library.proofs.Bytes.{same_bytes}
+use Rattle.base_library.proofs.Each.{each_left, each_right}
+use Rattle.base_library.specs.Numbers.{is_among}
 use Rattle.tsl_text.specs.Names.{is_usable}
 use Rattle.tsl_terms.specs.declared.names.NameKind.TheVariants.{Function, Predicate}
 use Rattle.tsl_terms.specs.Name.{number_of, is_name, question, Name as NameEntry}

@@ -5,9 +5,9 @@ use Rattle.std.proofs.Common.{arith}
 use Rattle.std.specs.Prelude.{Some, None, slice_get, IsSomeAnd, bytes_eq, option_map}
 use Rattle.std.proofs.lemmas.List.{drop_all, map-append}
 use Rattle.std.proofs.lemmas.Option.{slice_get-get_or, slice_get-map}
-use Rattle.sequence.proofs.Lists.{map_map}
+use Rattle.base_library.proofs.Lists.{map_map}
 use Rattle.std.proofs.Math.Bool.{and-false}
-use Rattle.sequence.proofs.Places.{slice_get_grown, slice_get-append}
+use Rattle.base_library.proofs.Places.{slice_get_grown, slice_get-append}
 use Rattle.std.specs.List.{take-map}
 use Rattle.tsl_terms.specs.Name.{number_of, texts, AreDistinct, Name as NameEntry}
 use Rattle.tsl_terms.proofs.NameLemmas.{absent_before}

@@ -8,8 +8,8 @@ use Rattle.std.specs.List.{list_all, AllByRecursion}
 use Rattle.std.proofs.lemmas.Bool.{and_parts}
 use Rattle.std.proofs.lemmas.Grind.{flat_map-append}
 use Rattle.std.proofs.lemmas.List.{append-nil}
-use Rattle.sequence.proofs.Each.{each_joined, each_weaker}
-use Rattle.sequence.proofs.Passes.{list_all_parts, list_all_from_each}
+use Rattle.base_library.proofs.Each.{each_joined, each_weaker}
+use Rattle.base_library.proofs.Passes.{list_all_parts, list_all_from_each}
 use Rattle.tsl_text.specs.Names.{is_usable}
 use Rattle.tsl_terms.specs.declared.names.NameKind.TheVariants.{Function, Predicate}
 use Rattle.program_listing.specs.declared.listing.Name.{Name}

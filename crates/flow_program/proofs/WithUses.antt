@@ -10,8 +10,8 @@ use Rattle.std.specs.List.{list_all}
 use Rattle.std.proofs.lemmas.Bool.{and_parts}
 use Rattle.std.proofs.lemmas.List.{append-nil, drop_more}
 use Rattle.std.proofs.Math.Seq.{take-append_seam}
-use Rattle.sequence.proofs.Places.{slice_get-behind}
-use Rattle.sequence.proofs.Passes.{list_all_push}
+use Rattle.base_library.proofs.Places.{slice_get-behind}
+use Rattle.base_library.proofs.Passes.{list_all_push}
 use Rattle.tsl_terms.specs.Name.{Name, number_of, AreDistinct}
 use Rattle.tsl_terms.specs.Clashes.{added_unless_found, with_use, with_uses, first_uses}
 use Rattle.tsl_terms.specs.WellFormed.{name_fits}

@@ -13,7 +13,7 @@ ghost use Rattle.flow_program.specs.internal.EqualityKeys.{is_pairwise, does_not
 
 use crate::uses::name_bytes;
 use program_listing::{Name, SpelledPlaced, SpelledWindow, SurfaceTerm, SurfaceTermList};
-use sequence::NoMemory;
+use base_library::NoMemory;
 use std::alloc::Global;
 use std::collections::BTreeSet;
 

@@ -7,7 +7,7 @@ ghost use Rattle.flow_program.specs.Uses.{entries_of_use, names_after};
 ghost use Rattle.flow_program.specs.internal.UseView.{use_view};
 
 use crate::uses::SpelledUse;
-use sequence::NoMemory;
+use base_library::NoMemory;
 use tsl_terms::{NameKind, Names};
 
 /// Adds a name where there is none of its text. An `Err` says that memory ran out.

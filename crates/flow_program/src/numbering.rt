@@ -3,7 +3,7 @@
 ghost use Rattle.std.specs.Prelude.{◌≡◌, ℕ, Bool, List, Option, Some, map, option_map, IfOk, IsTrue};
 ghost use Rattle.std.specs.List.{list_all};
 ghost use Rattle.std.specs.Option.{is_some};
-ghost use Rattle.sequence.specs.Options.{all_there};
+ghost use Rattle.base_library.specs.Options.{all_there};
 ghost use Rattle.tsl_terms.specs.Name.{number_of, question, Name as NameEntry};
 ghost use Rattle.tsl_terms.specs.TermTree.{TermTree, term_tree, term_trees, probe_tree};
 ghost use Rattle.tsl_terms.specs.WindowTree.{ListedTree, EquatedTree, WindowTree, listed_tree, equated_tree, window_tree};
@@ -26,7 +26,7 @@ use program_listing::{
     SurfaceTerm, SurfaceTermList,
 };
 use program_tree::{Node, Program};
-use sequence::{NoMemory, Sequence};
+use base_library::{NoMemory, Sequence};
 use std::alloc::Global;
 use tsl_terms::{Equated, Listed, Names, Probe, Term, TermList, Window};
 

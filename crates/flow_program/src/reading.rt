@@ -13,11 +13,11 @@ ghost use Rattle.flow_program.specs.Reading.{IsReading, HasProgramCause};
 
 use crate::naming::names_after;
 use crate::numbering::numbered_program;
-use crate::rules::{declared_names, limit_fault, line_fault, use_fault};
+use crate::rules::{name_resolution, limit_fault, line_fault, use_fault};
 use crate::uses::all_uses;
 use program_listing::{ListingError, Name, ProgramSyntax, read_listing};
 use program_tree::Program;
-use sequence::NoMemory;
+use base_library::NoMemory;
 use std::alloc::{AllocFailed, Global};
 use thiserror::Error;
 use tsl_terms::Names;
@@ -132,8 +132,8 @@ fn declared_signals(
 {
     let inputs_and_cells = joined(alloc, &listing.inputs, &listing.cells)?;
     let controlled = joined(alloc, &listing.cells, &listing.outputs)?;
-    let cells = declared_names(alloc, text, &listing.cells)?;
-    let readable = declared_names(alloc, text, &inputs_and_cells)?;
+    let cells = name_resolution(alloc, text, &listing.cells)?;
+    let readable = name_resolution(alloc, text, &inputs_and_cells)?;
     Ok(Signals {
         cells,
         readable,

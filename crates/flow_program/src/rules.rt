@@ -23,7 +23,7 @@ use program_listing::{
     Name, ProgramSyntax, SpelledListed, SpelledNode, SpelledUpdate, SpelledWindow,
 };
 use program_tree::{LONGEST_WINDOW, MOST_NODES, MOST_STATES, MOST_WINDOWS};
-use sequence::NoMemory;
+use base_library::NoMemory;
 use std::alloc::Global;
 use tsl_terms::{NameKind, Names, Quality, same_kind};
 
@@ -45,7 +45,7 @@ pub(crate) fn first_window(listing: &ProgramSyntax) -> u32
 }
 
 /// The names that lines declare, which are distinct. An `Err` says that memory ran out.
-pub(crate) fn declared_names(
+pub(crate) fn name_resolution(
     alloc: Global,
     text: &[u8],
     declared: &[Name],

@@ -21,7 +21,7 @@ use program_listing::{
     Name, ProgramSyntax, SpelledListed, SpelledNode, SpelledPlaced, SpelledUpdate, SpelledWindow,
     SurfaceTerm, SurfaceTermList,
 };
-use sequence::NoMemory;
+use base_library::NoMemory;
 use std::alloc::Global;
 use tsl_terms::{NameKind, NameUse};
 
@@ -208,7 +208,7 @@ trait UsesNames {
 }
 
 /// Adds the uses of parts of one line.
-#[tactic(auto, using(sequence::proofs::Passes::map_passes_within, sequence::proofs::Lists::part_is_few))]
+#[tactic(auto, using(base_library::proofs::Passes::map_passes_within, base_library::proofs::Lists::part_is_few))]
 fn add_all<'a, U: UsesNames>(
     list: &mut Vec<SpelledUse<'a>>,
     text: &'a [u8],
@@ -227,7 +227,7 @@ fn add_all<'a, U: UsesNames>(
 }
 
 /// Adds the uses of parts that have a line each, the first of which has this number.
-#[tactic(auto, using(sequence::proofs::Passes::map_passes_within, crate::proofs::UseLemmas::line_is_few, crate::proofs::UseLemmas::lines_left, sequence::proofs::Lists::written_step))]
+#[tactic(auto, using(base_library::proofs::Passes::map_passes_within, crate::proofs::UseLemmas::line_is_few, crate::proofs::UseLemmas::lines_left, base_library::proofs::Lists::written_step))]
 fn add_lines<'a, U: UsesNames>(
     list: &mut Vec<SpelledUse<'a>>,
     text: &'a [u8],
@@ -371,7 +371,7 @@ impl UsesNames for SpelledNode {
 }
 
 /// Adds the signals that lines declare, the first of which has this number.
-#[tactic(auto, using(sequence::proofs::Passes::passes_within))]
+#[tactic(auto, using(base_library::proofs::Passes::passes_within))]
 fn add_declared<'a>(
     list: &mut Vec<SpelledUse<'a>>,
     text: &'a [u8],

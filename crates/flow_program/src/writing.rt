@@ -14,7 +14,7 @@ ghost use Rattle.program_tree.specs.Writable.{IsWritable};
 ghost use Rattle.flow_program.specs.ProgramText.{ProgramText};
 
 use program_tree::{Node, Program};
-use sequence::NoMemory;
+use base_library::NoMemory;
 use std::alloc::Global;
 use term_text::{put_name, put_probe, put_update, put_window};
 use tsl_terms::{Names, Probe, Term, Window};
@@ -43,7 +43,7 @@ pub fn write_program(alloc: Global, program: &Program, names: &Names) -> Result<
 }
 
 /// Appends a line for each signal, with the word and its name.
-#[tactic(auto, using(sequence::proofs::Passes::passes_within, sequence::proofs::Lists::written_step))]
+#[tactic(auto, using(base_library::proofs::Passes::passes_within, base_library::proofs::Lists::written_step))]
 fn put_declarations(
     out: &mut Vec<u8>,
     names: &Names,
@@ -74,7 +74,7 @@ fn put_declaration(out: &mut Vec<u8>, names: &Names, word: &[u8], id: u32) -> Re
 }
 
 /// Appends a line for each window.
-#[tactic(auto, using(sequence::proofs::Lists::written_step, sequence::proofs::Lists::left_at))]
+#[tactic(auto, using(base_library::proofs::Lists::written_step, base_library::proofs::Lists::left_at))]
 fn put_windows(out: &mut Vec<u8>, names: &Names, windows: &[Window]) -> Result<(), NoMemory>
     requires { IsTrue (list_all (window_is_writable names.now) (map window_tree windows.now)) }
     ensures { OnOk result (out.new.items
@@ -87,7 +87,7 @@ fn put_windows(out: &mut Vec<u8>, names: &Names, windows: &[Window]) -> Result<(
 }
 
 /// Appends a line for each node, numbered from 0.
-#[tactic(auto, using(sequence::proofs::Passes::map_passes_within, sequence::proofs::Lists::written_step, sequence::proofs::Lists::left_at))]
+#[tactic(auto, using(base_library::proofs::Passes::map_passes_within, base_library::proofs::Lists::written_step, base_library::proofs::Lists::left_at))]
 fn put_nodes(
     out: &mut Vec<u8>,
     names: &Names,

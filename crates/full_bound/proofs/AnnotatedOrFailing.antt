@@ -3,7 +3,7 @@ use Rattle.std.proofs.Common.{◌∙◌, ℕ, ◌*◌, ◌/◌, ◌%◌, ◌<◌
 use Rattle.std.proofs.lemmas.Bool.{false≢true}
 use Rattle.std.proofs.lemmas.Option.{slice_get_within}
 use Rattle.std.proofs.lemmas.Nat.{mul-add-lt, mul-lt, div_below}
-use Rattle.sequence.proofs.Each.{each_contained}
+use Rattle.base_library.proofs.Each.{each_contained}
 use Rattle.ltl_formula.specs.LtlTree.{LtlTree}
 use Rattle.cobuchi_automata.specs.Automata.{StateTree, EdgeTree, untils_of, start_state, state_after, IsOfChoice, IsAutomaton}
 use Rattle.cobuchi_automata.proofs.RejectingTurns.{law}

@@ -4,8 +4,8 @@ use Rattle.std.proofs.Common.{◌++◌}
 use Rattle.std.proofs.Common.{Contains, refl, sym, ap, subst, arith, eq-eqb}
 use Rattle.std.specs.List.{list_any}
 use Rattle.std.proofs.lemmas.Bool.{and_parts, and_from, or_cases, or_left, or_right, eqb-true, not-true}
-use Rattle.sequence.proofs.Places.{contains_at}
-use Rattle.sequence.proofs.Passes.{list_any_place, list_any_contained}
+use Rattle.base_library.proofs.Places.{contains_at}
+use Rattle.base_library.proofs.Passes.{list_any_place, list_any_contained}
 use Rattle.full_bound.specs.internal.Graph.{IsWalk}
 use Rattle.full_bound.proofs.Counts.{count_below, count_within, count_less, any_below, any_place, any_none}
 

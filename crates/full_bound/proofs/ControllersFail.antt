@@ -2,7 +2,7 @@
 use Rattle.std.proofs.Common.{ℕ, suc, ◌+◌, ◌*◌, ◌<◌, ◌≤◌, ◌^◌, ◌⊎◌, List, [], ◌∷◌, length, take, drop, Contains, sym, subst, arith}
 use Rattle.std.specs.List.{AllByRecursion}
 use Rattle.std.proofs.lemmas.List.{take-append-drop, length-take}
-use Rattle.sequence.proofs.Each.{each_contained, each_left, each_right}
+use Rattle.base_library.proofs.Each.{each_contained, each_left, each_right}
 use Rattle.ltl_formula.specs.LtlTree.{LtlTree}
 use Rattle.cobuchi_automata.specs.Automata.{StateTree, EdgeTree, IsAutomaton}
 use Rattle.letter_space.specs.SpaceTree.{SpaceTree, IsSpace}

@@ -6,7 +6,7 @@ use Rattle.std.specs.declared.alloc.Global.{Global}
 use Rattle.std.proofs.Math.Seq.{take-append_seam, drop-append_seam}
 use Rattle.std.proofs.lemmas.Bool.{cases_lt}
 use Rattle.std.proofs.lemmas.Option.{slice_get-map, slice_get_past}
-use Rattle.sequence.proofs.Lists.{map_map}
+use Rattle.base_library.proofs.Lists.{map_map}
 use Rattle.ltl_formula.specs.LtlTree.{LtlTree}
 use Rattle.cobuchi_automata.specs.Automata.{StateTree, EdgeTree, IsAutomaton}
 use Rattle.machines.specs.Moves.{MoveTree}

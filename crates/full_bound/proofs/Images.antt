@@ -1,7 +1,7 @@
 -- Walks over images of steps are images of walks, so turns over the one are turns over the other.
 use Rattle.std.proofs.Common.{◌≡◌, ◌∙◌, ℕ, zero, suc, Bool, List, [], ◌∷◌, map, Contains, refl, sym, ap, subst, arith}
 use Rattle.std.specs.List.{list_any}
-use Rattle.sequence.proofs.Passes.{list_any-map}
+use Rattle.base_library.proofs.Passes.{list_any-map}
 use Rattle.full_bound.specs.internal.Graph.{IsWalk, MarkedTurn}
 
 -- what stands in a list of images is an image, and the other way round

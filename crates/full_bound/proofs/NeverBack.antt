@@ -6,7 +6,7 @@ use Rattle.std.specs.List.{list_any, AllByRecursion}
 use Rattle.std.proofs.lemmas.Bool.{false≢true, or_left}
 use Rattle.std.proofs.lemmas.Option.{same_Some}
 use Rattle.std.proofs.lemmas.List.{reverse-append}
-use Rattle.sequence.proofs.Each.{each_contained}
+use Rattle.base_library.proofs.Each.{each_contained}
 use Rattle.full_bound.specs.declared.search.Step.{Step}
 use Rattle.full_bound.specs.declared.search.Arrival.{Arrival}
 use Rattle.full_bound.specs.internal.Search.{IsSearch, IsSearched, Comes}

@@ -8,7 +8,7 @@ use Rattle.std.proofs.lemmas.Bool.{false≢true, eqb-true, cases_lt}
 use Rattle.std.proofs.lemmas.List.{map-append, length-map}
 use Rattle.std.proofs.lemmas.Option.{none-some, same_Some, slice_get-map, slice_get_within}
 use Rattle.std.proofs.lemmas.Nat.{div-mul-add, mod-mul-add, div_below}
-use Rattle.sequence.proofs.Places.{slice_get_some, slice_get_grown, slice_get-append}
+use Rattle.base_library.proofs.Places.{slice_get_some, slice_get_grown, slice_get-append}
 use Rattle.loop_shape.specs.LoopShape.{LoopShape, after, steps_on}
 use Rattle.loop_shape.proofs.Steps.{last, onward, steps_on-add}
 use Rattle.ltl_formula.specs.LetterLoop.{LetterLoop, shape_of, letter_at}

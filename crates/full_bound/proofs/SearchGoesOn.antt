@@ -9,8 +9,8 @@ use Rattle.std.proofs.lemmas.Bool.{false≢true, cases_lt}
 use Rattle.std.proofs.lemmas.Bool.Decides.{eqb_tells}
 use Rattle.std.proofs.lemmas.Option.{none-some, same_Some, slice_get-map, slice_get-get_or, slice_get_within}
 use Rattle.std.proofs.lemmas.List.{length-set, length-replicate}
-use Rattle.sequence.proofs.Each.{each_joined, each_weaker, each_contained}
-use Rattle.sequence.proofs.Places.{slice_get_set, slice_get_set_same, slice_get_push, slice_get_grown, slice_get-behind, slice_get_some}
+use Rattle.base_library.proofs.Each.{each_joined, each_weaker, each_contained}
+use Rattle.base_library.proofs.Places.{slice_get_set, slice_get_set_same, slice_get_push, slice_get_grown, slice_get-behind, slice_get_some}
 use Rattle.full_bound.specs.declared.search.Step.{Step}
 use Rattle.full_bound.specs.declared.search.Arrival.{Arrival}
 use Rattle.full_bound.specs.internal.Search.{steps_from, flags_with, arrivals_with, unset, search_left, Comes, IsSearch, IsVisited}

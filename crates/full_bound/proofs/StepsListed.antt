@@ -10,9 +10,9 @@ use Rattle.std.proofs.lemmas.Bool.{eqb-true, and_parts, and_from, cases_lt, ne_e
 use Rattle.std.proofs.lemmas.Bool.Decides.{eqb_tells}
 use Rattle.std.proofs.lemmas.List.{append_assoc, map-append, map_push}
 use Rattle.std.proofs.lemmas.Option.{slice_get-map, slice_get-get_or, slice_get_past}
-use Rattle.sequence.proofs.Booleans.{same_tests}
-use Rattle.sequence.proofs.Passes.{filter_push}
-use Rattle.sequence.proofs.Places.{slice_get-front, slice_get-behind, slice_get_set, slice_get_set_same, take_next}
+use Rattle.base_library.proofs.Booleans.{same_tests}
+use Rattle.base_library.proofs.Passes.{filter_push}
+use Rattle.base_library.proofs.Places.{slice_get-front, slice_get-behind, slice_get_set, slice_get_set_same, take_next}
 use Rattle.ltl_formula.specs.Cubes.{cube_matches}
 use Rattle.cobuchi_automata.specs.Automata.{EdgeTree}
 use Rattle.machines.specs.Moves.{MoveTree}

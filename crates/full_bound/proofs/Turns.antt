@@ -5,8 +5,8 @@ use Rattle.std.proofs.Common.{Option, None, Some, Contains, refl, sym, ap, arith
 use Rattle.std.specs.List.{list_any}
 use Rattle.std.proofs.lemmas.Bool.{and_parts, and_from, or_left, false_from_ne_true}
 use Rattle.std.proofs.lemmas.Option.{none-some, same_Some}
-use Rattle.sequence.proofs.Places.{contains_at}
-use Rattle.sequence.proofs.Passes.{list_any_place, list_any_contained}
+use Rattle.base_library.proofs.Places.{contains_at}
+use Rattle.base_library.proofs.Passes.{list_any_place, list_any_contained}
 use Rattle.full_bound.specs.internal.Graph.{MarkedTurn, IsNodeNumbering}
 use Rattle.full_bound.proofs.Counts.{count_below, count_within, count_le, count_less, any_below, any_place, any_none}
 use Rattle.full_bound.proofs.Closures.{IsClosure, closure, has_walk, walk_stays}

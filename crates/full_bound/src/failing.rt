@@ -19,7 +19,7 @@ use cobuchi_automata::Automaton;
 use letter_space::Space;
 use ltl_formula::Ltl;
 use machines::Controller;
-use sequence::{NoMemory, Sequence};
+use base_library::{NoMemory, Sequence};
 use std::alloc::Global;
 
 /// A letter loop of the controller on which the formula holds, whose automaton this is. There is none

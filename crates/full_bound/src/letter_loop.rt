@@ -2,7 +2,7 @@
 
 ghost use Rattle.std.specs.Prelude.{◌<◌, length};
 
-use sequence::Sequence;
+use base_library::Sequence;
 
 /// Letters that follow each other, the last of which goes on to an earlier one or to itself.
 #[derive(Drop)]

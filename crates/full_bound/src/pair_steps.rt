@@ -14,7 +14,7 @@ use crate::search::Step;
 use cobuchi_automata::{Automaton, Edge};
 use letter_space::Space;
 use machines::{Controller, Move};
-use sequence::NoMemory;
+use base_library::NoMemory;
 use std::alloc::Global;
 
 /// How many states a controller may have whose pairs are searched.

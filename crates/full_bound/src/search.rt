@@ -3,7 +3,7 @@
 ghost use Rattle.std.specs.Prelude.{◌≡◌, ◌*◌, ◌<◌, ◌≤◌, ℕ, length, Contains, IfOk, OnOk, Some, slice_get, true};
 ghost use Rattle.std.specs.List.{AllByRecursion};
 
-use sequence::NoMemory;
+use base_library::NoMemory;
 use std::alloc::Global;
 
 /// A step to a node.

@@ -6,7 +6,7 @@ ghost use Rattle.full_bound.specs.internal.Search.{steps_from, IsSearch, IsSearc
 ghost use Rattle.full_bound.specs.internal.Turning.{IsFirst, IsReturn, IsSpelled, IsTurn, Turn, NeverBack};
 
 use crate::search::{Arrival, Search, Step, found_from, steps_at};
-use sequence::NoMemory;
+use base_library::NoMemory;
 use std::alloc::Global;
 
 /// The letters up to a turn, and those of the turn.

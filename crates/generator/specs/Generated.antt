@@ -1,6 +1,6 @@
 -- The specification of a number, and what is said of it. Both formats are the project's own.
 use Rattle.std.specs.Prelude.{ℕ, Bool, true, false, List, ◌++◌, codes, decimal, flat_map}
-use Rattle.sequence.specs.Numbers.{numbers_from}
+use Rattle.base_library.specs.Numbers.{numbers_from}
 
 -- `req r7 -> F [g <- pick r7];`: whenever the request holds, the output takes the pick of it at some time
 abbrev pub response_line : ℕ → List ℕ

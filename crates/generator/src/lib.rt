@@ -10,7 +10,7 @@ ghost use Rattle.tsl_terms.specs.SpecTree.{SpecTree};
 ghost use Rattle.tsl_reader.specs.Spells.{Spells};
 ghost use Rattle.generator.specs.Generated.{generated_text, outcome_line, response_line, summary_text};
 
-use sequence::NoMemory;
+use base_library::NoMemory;
 use std::alloc::Global;
 use tsl_text::{put_bytes, put_number};
 

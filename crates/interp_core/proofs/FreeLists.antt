@@ -1,7 +1,7 @@
 -- Lists of free terms that are built member by member.
 use Rattle.std.proofs.Common.{◌≡◌, List, [], ◌∷◌, refl, ap}
-use Rattle.sequence.proofs.Lists.{with_front}
-pub use Rattle.sequence.proofs.Lists.{with_front_push}
+use Rattle.base_library.proofs.Lists.{with_front}
+pub use Rattle.base_library.proofs.Lists.{with_front_push}
 use Rattle.tsl_terms.specs.FreeTree.{FreeTree, no_free, more_free}
 use Rattle.interp_core.specs.FreeView.{frees_of}
 

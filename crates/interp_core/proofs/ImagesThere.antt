@@ -3,10 +3,10 @@ use Rattle.std.proofs.Common.{◌≡◌, ◌∙◌, ℕ, ◌<◌, true, List, �
 use Rattle.std.specs.Prelude.{option_map, option_and_then, IsSome, is_some, nat_lt}
 use Rattle.std.specs.List.{AllByRecursion}
 use Rattle.std.proofs.lemmas.Bool.{and_parts, ltb-true}
-use Rattle.sequence.specs.Numbers.{is_among}
-use Rattle.sequence.proofs.Each.{each_at}
-use Rattle.sequence.proofs.Options.{then_there, map_there}
-use Rattle.sequence.proofs.Places.{slice_get_some}
+use Rattle.base_library.specs.Numbers.{is_among}
+use Rattle.base_library.proofs.Each.{each_at}
+use Rattle.base_library.proofs.Options.{then_there, map_there}
+use Rattle.base_library.proofs.Places.{slice_get_some}
 use Rattle.tsl_terms.specs.FreeTree.{FreeTree, leaf_at, applied, FreeTrees, no_free, more_free}
 use Rattle.tsl_terms.specs.Value.{Meanings}
 use Rattle.interp_core.specs.declared.leaves.Leaves.{Leaves}

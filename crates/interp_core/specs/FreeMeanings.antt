@@ -1,7 +1,7 @@
 -- What the symbols mean over free terms: a function on any arguments is its own application to them, and a cell is itself.
 -- Source: Baader, Nipkow: Term Rewriting and All That (1998), term algebras.
 use Rattle.std.specs.Prelude.{ℕ, List, Some, None, if◌then◌else◌}
-use Rattle.sequence.specs.Numbers.{is_among}
+use Rattle.base_library.specs.Numbers.{is_among}
 use Rattle.tsl_terms.specs.FreeTree.{FreeTree, leaf_at, applied}
 use Rattle.tsl_terms.specs.Value.{Meanings}
 use Rattle.interp_core.specs.FreeView.{frees_of}

@@ -3,7 +3,7 @@
 ghost use Rattle.std.specs.Prelude.{◌≡◌, ◌↔◌, ℕ, [], ◌∷◌, Option, Some, IsSome, IsTrue, IfOk, map};
 ghost use Rattle.tsl_terms.specs.Value.{Meanings};
 
-use sequence::NoMemory;
+use base_library::NoMemory;
 use std::alloc::Global;
 
 /// Values, and what functions and cells mean over them.

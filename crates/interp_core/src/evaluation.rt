@@ -7,7 +7,7 @@ ghost use Rattle.interp_core.specs.LeafValue.{leaf_value};
 
 use crate::algebra::{Algebra, Judge};
 use crate::leaves::Leaves;
-use sequence::NoMemory;
+use base_library::NoMemory;
 use std::alloc::Global;
 use tsl_terms::{Probe, Term, TermList};
 

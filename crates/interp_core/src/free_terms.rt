@@ -4,7 +4,7 @@ ghost use Rattle.std.specs.Prelude.{◌≡◌, ◌↔◌, map, IfOk, IsTrue};
 ghost use Rattle.interp_core.specs.FreeView.{free_tree, free_trees, frees_of};
 ghost use Rattle.tsl_terms.specs.SameFree.{same_free, same_frees};
 
-use sequence::NoMemory;
+use base_library::NoMemory;
 use std::alloc::Global;
 
 /// A free term: a signal at a step, or a function applied to free terms. Numbers are those of a list of names.

@@ -9,7 +9,7 @@ ghost use Rattle.interp_core.specs.Image.{image_of, images_of, row_value};
 use crate::algebra::Algebra;
 use crate::free_terms::{FreeList, FreeTerm};
 use crate::leaves::Leaves;
-use sequence::NoMemory;
+use base_library::NoMemory;
 use std::alloc::Global;
 
 /// The image of a free term: its value where a row for each step from 0 on gives the values of signals. An `Err`

@@ -3,10 +3,10 @@
 ghost use Rattle.std.specs.Prelude.{◌≡◌, ◌==◌, length};
 ghost use Rattle.std.specs.List.{position};
 ghost use Rattle.std.specs.Option.{option_copied};
-ghost use Rattle.sequence.specs.Numbers.{IsDistinct};
+ghost use Rattle.base_library.specs.Numbers.{IsDistinct};
 ghost use Rattle.tsl_terms.specs.Value.{beside};
 
-use sequence::Sequence;
+use base_library::Sequence;
 
 /// Signals with a value each, in one order. No signal stands twice.
 #[derive(Drop)]

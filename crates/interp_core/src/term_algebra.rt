@@ -7,7 +7,7 @@ ghost use Rattle.interp_core.specs.FreeMeanings.{free_meanings};
 
 use crate::algebra::Algebra;
 use crate::free_terms::{FreeTerm, are_equal, copy_free, list_of_copies};
-use sequence::{NoMemory, Sequence};
+use base_library::{NoMemory, Sequence};
 use std::alloc::Global;
 
 /// The algebra whose values are free terms: a function on any arguments is its own application to them, and no

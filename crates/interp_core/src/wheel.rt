@@ -4,7 +4,7 @@ ghost use Rattle.std.specs.Prelude.{◌≡◌, ◌<◌, ℕ};
 ghost use Rattle.interp_core.specs.Wheel.{digits_of, wheel};
 
 use crate::{Algebra, Judge};
-use sequence::NoMemory;
+use base_library::NoMemory;
 use std::alloc::Global;
 
 /// The values below a size. Each symbol has a value, or a truth, on all arguments, and each cell is 0 at first. It

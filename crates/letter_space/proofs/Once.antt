@@ -32,11 +32,11 @@ use Rattle.std.proofs.lemmas.Bool.{or_cases, or_left, or_right, false≢true}
 use Rattle.std.proofs.lemmas.List.Folds.{list_any-append}
 use Rattle.std.proofs.lemmas.Option.{none-some, same_Some}
 use Rattle.std.proofs.Math.Bool.{or-false}
-use Rattle.sequence.specs.Kept.{is_kept, with_new}
-use Rattle.sequence.proofs.Places.{slice_get_push}
-use Rattle.sequence.proofs.Kept.{with_new-from_none}
+use Rattle.base_library.specs.Kept.{is_kept, with_new}
+use Rattle.base_library.proofs.Places.{slice_get_push}
+use Rattle.base_library.proofs.Kept.{with_new-from_none}
 use Rattle.tsl_terms.specs.Distinct.{without_repeats}
-use Rattle.sequence.specs.Once.{StandOnce}
+use Rattle.base_library.specs.Once.{StandOnce}
 
 -- what some member passes
 pub any_at : {X : Type 0} (test : X → Bool) (xs : List X) (i : ℕ) (x : X) → slice_get xs i ≡ Some x → test x ≡ true →

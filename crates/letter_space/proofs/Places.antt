@@ -33,8 +33,8 @@ use Rattle.std.proofs.lemmas.List.Quantifiers.{position-Some}
 use Rattle.std.proofs.lemmas.Option.{none-some, same_Some, slice_get_past}
 use Rattle.std.proofs.lemmas.List.Folds.{find_at}
 use Rattle.std.proofs.lemmas.Bool.{ltb-true, ltb-false}
-use Rattle.sequence.proofs.Finds.{found_passes}
-use Rattle.sequence.proofs.Places.{slice_get_some}
+use Rattle.base_library.proofs.Finds.{found_passes}
+use Rattle.base_library.proofs.Places.{slice_get_some}
 
 -- among images, it is that of the images' test
 pub position_or_len-map : {X Y : Type 0} (view : X → Y) (test : Y → Bool) (xs : List X) →

@@ -45,13 +45,13 @@ use Rattle.tsl_terms.specs.TermTree.{probe_tree}
 use Rattle.letter_space.specs.declared.controlled.Controlled.{Controlled}
 use Rattle.letter_space.specs.ControlledView.{controlled_tree, space_with}
 use Rattle.std.proofs.lemmas.Option.{none-some, same_Some}
-use Rattle.sequence.specs.Numbers.{is_among, IsDistinct}
-use Rattle.sequence.proofs.Booleans.{eqb_self}
-use Rattle.sequence.proofs.Numbers.{distinct_behind}
-use Rattle.sequence.proofs.Each.{each_from_places}
-use Rattle.sequence.proofs.Finds.{find_none_at}
-use Rattle.sequence.proofs.Options.{map_there}
-use Rattle.sequence.proofs.Passes.{list_all_filter, list_all_joined, passes_at, list_any_place}
+use Rattle.base_library.specs.Numbers.{is_among, IsDistinct}
+use Rattle.base_library.proofs.Booleans.{eqb_self}
+use Rattle.base_library.proofs.Numbers.{distinct_behind}
+use Rattle.base_library.proofs.Each.{each_from_places}
+use Rattle.base_library.proofs.Finds.{find_none_at}
+use Rattle.base_library.proofs.Options.{map_there}
+use Rattle.base_library.proofs.Passes.{list_all_filter, list_all_joined, passes_at, list_any_place}
 use Rattle.tsl_terms.specs.TermTree.{TermTree, signal}
 use Rattle.tsl_terms.specs.FormulaTree.{Atom, test, update}
 use Rattle.tsl_terms.specs.Atoms.{atoms}
@@ -77,7 +77,7 @@ use Rattle.tsl_terms.proofs.SameLemmas.{same_tree_is, same_tree_itself, same_pro
 use Rattle.tsl_terms.proofs.SignalFacts.{distinct_signals, whole_updates}
 use Rattle.letter_space.specs.declared.limits.TheConstants.{MOST_PREDICATES, MOST_BITS}
 use Rattle.letter_space.specs.SpaceTree.{ControlledTree, choice_count, bit_count, bits_follow, has_choice, IsSpace}
-use Rattle.sequence.specs.Once.{StandOnce}
+use Rattle.base_library.specs.Once.{StandOnce}
 use Rattle.letter_space.specs.SpecSpace.{controlled_from, spec_space}
 use Rattle.letter_space.specs.Bits.{bit_of_choice, controlled_with, bit_of_atom, HasBits}
 use Rattle.letter_space.proofs.Places.{position_tells}

@@ -3,7 +3,7 @@
 -- approximation in linear temporal logic. In which order bits stand is this project's own rule.
 use Rattle.std.specs.Prelude.{◌≡◌, ℕ, ◌+◌, ◌≤◌, ◌==◌, nat_lt, Bool, true, ◌&&◌, List, [], ◌∷◌, length, map, Some, slice_get, IsTrue}
 use Rattle.std.specs.List.{list_all}
-use Rattle.sequence.specs.Once.{StandOnce}
+use Rattle.base_library.specs.Once.{StandOnce}
 use Rattle.tsl_terms.specs.TermTree.{TermTree, ProbeTree}
 use Rattle.letter_space.specs.declared.limits.TheConstants.{MOST_PREDICATES, MOST_BITS}
 

@@ -4,7 +4,7 @@ ghost use Rattle.std.specs.Prelude.{◌≡◌, position};
 ghost use Rattle.tsl_terms.specs.TermTree.{term_tree};
 ghost use Rattle.tsl_terms.specs.SameTree.{same_tree};
 
-use sequence::Sequence;
+use base_library::Sequence;
 use tsl_terms::{Term, same_term};
 
 /// A cell or an output, and the terms that it may take.

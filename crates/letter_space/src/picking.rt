@@ -8,7 +8,7 @@ ghost use Rattle.letter_space.specs.ControlledView.{controlled_tree};
 ghost use Rattle.letter_space.specs.Vectors.{vector_count, picks_of};
 
 use crate::controlled::Controlled;
-use sequence::NoMemory;
+use base_library::NoMemory;
 use std::alloc::Global;
 
 /// How many vectors signals have.

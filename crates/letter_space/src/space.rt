@@ -9,7 +9,7 @@ ghost use Rattle.letter_space.specs.ControlledView.{space_with};
 use crate::controlled::Controlled;
 use crate::limits::MOST_VECTORS;
 use crate::picking::{picks_of, vector_count};
-use sequence::{NoMemory, Sequence};
+use base_library::{NoMemory, Sequence};
 use std::alloc::Global;
 use tsl_terms::{Probe, Term, same_probe};
 

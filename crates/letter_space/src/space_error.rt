@@ -1,6 +1,6 @@
 //! Why a specification has no space.
 
-use sequence::NoMemory;
+use base_library::NoMemory;
 use std::alloc::AllocFailed;
 use thiserror::Error;
 

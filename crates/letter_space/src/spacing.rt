@@ -14,7 +14,7 @@ use crate::controlled::Controlled;
 use crate::limits::{MOST_BITS, MOST_PREDICATES};
 use crate::space::Space;
 use crate::space_error::SpaceError;
-use sequence::{NoMemory, Sequence};
+use base_library::{NoMemory, Sequence};
 use std::alloc::Global;
 use tsl_terms::{Spec, choices, predicates, signals};
 

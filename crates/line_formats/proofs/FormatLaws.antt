@@ -11,7 +11,7 @@ use Rattle.line_formats.specs.Format.{fixed, leaf, many, choice, Value}
 use Rattle.line_formats.specs.Format.{strip, with_first, then_read, mapped, push_front, and_more, next_member, repeat, at_end, chosen}
 use Rattle.tsl_text.specs.Written.{is_line}
 use Rattle.tsl_text.specs.Lines.{is_line_byte}
-use Rattle.sequence.proofs.Passes.{list_all_joined}
+use Rattle.base_library.proofs.Passes.{list_all_joined}
 use Rattle.line_formats.specs.Format.{is_feedless, may_be_empty, starts, takes, is_clear, fits, print, read, value_of_line}
 
 -- ---- sets

@@ -9,7 +9,7 @@ use Rattle.std.proofs.lemmas.Bool.{and_parts, and_from, not-true, cond-true, con
 use Rattle.std.proofs.lemmas.Option.{none-some, same_Some}
 use Rattle.std.proofs.lemmas.Str.Parse.{digits_value_short}
 use Rattle.std.proofs.lemmas.Fmt.{decimal_nonempty}
-use Rattle.sequence.proofs.Passes.{list_all-prefix}
+use Rattle.base_library.proofs.Passes.{list_all-prefix}
 use Rattle.tsl_text.specs.Lines.{has_bytes, is_line_byte}
 use Rattle.tsl_text.specs.Numbers.{is_digits, value_of, number_in, has_leading_zero, plain_number_in}
 use Rattle.tsl_text.proofs.NumberLaws.{numerals, decimal_digits, decimal_is_read, read_is_decimal}

@@ -3,8 +3,8 @@ use Rattle.std.proofs.Common.{zero, ◌<◌, ◌≡◌, ℕ, suc, ◌+◌, Bool,
 use Rattle.std.proofs.Common.{None, Result, Ok, Err, refl, sym, ap, subst, ◌∙◌, append_assoc, append-nil, arith, ◌⊎◌, inl, inr}
 use Rattle.std.specs.List.{list_all}
 use Rattle.std.proofs.lemmas.Bool.{and_parts, and_from, eqb-true}
-use Rattle.sequence.proofs.Passes.{list_all_joined}
-use Rattle.sequence.proofs.Lists.{tails}
+use Rattle.base_library.proofs.Passes.{list_all_joined}
+use Rattle.base_library.proofs.Lists.{tails}
 use Rattle.tsl_text.specs.Lines.{is_line_byte, lines_from}
 use Rattle.tsl_text.specs.Written.{is_line, text_of_lines}
 use Rattle.tsl_text.proofs.LineLaws.{from_feed, from_cut}

@@ -10,7 +10,7 @@ use cobuchi_automata::Automaton;
 use letter_space::Space;
 use logic_values::{no_bits, still_environment};
 use machines::Environment;
-use sequence::Sequence;
+use base_library::Sequence;
 use std::test::Fail;
 
 /// Whether a number is below a bound.

@@ -11,7 +11,7 @@ use full_bound::{LetterLoop, failing_loop};
 use letter_space::{Controlled, Space};
 use logic_values::space_of_spec;
 use machines::{Controller, Entry};
-use sequence::{NoMemory, Sequence};
+use base_library::{NoMemory, Sequence};
 use spec_values::spec_of;
 use std::alloc::Global;
 use std::process::Abort;

@@ -2,7 +2,7 @@
 
 use logic_values::{always, either, finally, space_of_spec};
 use ltl_formula::{Ltl, negate};
-use sequence::NoMemory;
+use base_library::NoMemory;
 use spec_values::spec_of;
 use std::alloc::Global;
 use std::test::Fail;

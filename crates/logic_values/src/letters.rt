@@ -1,7 +1,7 @@
 //! Formulas over bits.
 
 use ltl_formula::{Ltl, LtlList};
-use sequence::NoMemory;
+use base_library::NoMemory;
 use std::alloc::Global;
 
 /// The formula holds at the next position.

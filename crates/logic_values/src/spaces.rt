@@ -4,7 +4,7 @@ ghost use Rattle.std.specs.Prelude.{◌≡◌, []};
 ghost use Rattle.letter_space.specs.SpaceView.{space_tree};
 
 use letter_space::{Space, space_of};
-use sequence::Sequence;
+use base_library::Sequence;
 use std::alloc::Global;
 use std::test::Fail;
 use tsl_terms::Spec;

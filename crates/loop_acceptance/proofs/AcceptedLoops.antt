@@ -5,8 +5,8 @@ use Rattle.std.specs.Prelude.{option_and_then}
 use Rattle.std.proofs.lemmas.Bool.{and_parts, and_from, eqb-true, eq-eqb}
 use Rattle.std.proofs.lemmas.Nat.{div-mul-add, mod-mul-add}
 use Rattle.std.proofs.lemmas.Option.{none-some, same_Some, slice_get-get_or, slice_get_within}
-use Rattle.sequence.proofs.Each.{each_contained}
-use Rattle.sequence.proofs.Places.{contains_at}
+use Rattle.base_library.proofs.Each.{each_contained}
+use Rattle.base_library.proofs.Places.{contains_at}
 use Rattle.loop_shape.specs.LoopShape.{after}
 use Rattle.ltl_formula.specs.LtlTree.{LtlTree}
 use Rattle.ltl_formula.specs.LetterLoop.{LetterLoop, shape_of, letter_at, holds}

@@ -5,7 +5,7 @@ use Rattle.std.proofs.lemmas.Bool.{false≢true}
 use Rattle.std.proofs.lemmas.Bool.Decides.{eqb_tells}
 use Rattle.std.proofs.lemmas.Option.{none-some, same_Some, slice_get-get_or, slice_get_within, get_or_from_slice_get}
 use Rattle.std.proofs.lemmas.List.{length-set}
-use Rattle.sequence.proofs.Places.{slice_get_set, slice_get_set_same, slice_get_push, slice_get_grown, slice_get-behind}
+use Rattle.base_library.proofs.Places.{slice_get_set, slice_get_set_same, slice_get_push, slice_get_grown, slice_get-behind}
 use Rattle.loop_acceptance.specs.declared.marks.Mark.{Mark}
 use Rattle.loop_acceptance.specs.declared.marks.Mark.TheVariants.{New, Open, Done, Red}
 use Rattle.loop_acceptance.specs.internal.Search.{is_new, is_open, is_done, marks_met, red_met, marks_weight}

@@ -4,7 +4,7 @@ use Rattle.std.proofs.Common.{Option, Some, slice_get, refl, sym, ap, subst, ari
 use Rattle.std.proofs.lemmas.Bool.Decides.{eqb_tells}
 use Rattle.std.proofs.lemmas.Option.{none-some, same_Some, slice_get_within}
 use Rattle.std.proofs.lemmas.List.{length-set}
-use Rattle.sequence.proofs.Places.{slice_get_set, slice_get_set_same, slice_get-take, slice_get_taken}
+use Rattle.base_library.proofs.Places.{slice_get_set, slice_get_set_same, slice_get-take, slice_get_taken}
 use Rattle.loop_acceptance.specs.declared.product.Step.{Step}
 use Rattle.loop_acceptance.specs.declared.marks.Mark.{Mark}
 use Rattle.loop_acceptance.specs.declared.marks.Mark.TheVariants.{New, Open, Done, Red}

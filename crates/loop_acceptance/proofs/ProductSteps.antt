@@ -10,9 +10,9 @@ use Rattle.std.proofs.lemmas.List.{take-append-drop, length-take-le, length-drop
 use Rattle.std.proofs.lemmas.List.Elements.{recursion_from_All}
 use Rattle.std.proofs.lemmas.Nat.{div-mul-add, mod-mul-add, mul-le, div_below, mod_below}
 use Rattle.std.proofs.lemmas.Option.{none-some, same_Some, slice_get-map, slice_get-get_or, slice_get_read, slice_get_within}
-use Rattle.sequence.proofs.Each.{each_contained}
-use Rattle.sequence.proofs.Options.{some_mapped}
-use Rattle.sequence.proofs.Places.{contains_at}
+use Rattle.base_library.proofs.Each.{each_contained}
+use Rattle.base_library.proofs.Options.{some_mapped}
+use Rattle.base_library.proofs.Places.{contains_at}
 use Rattle.loop_shape.specs.LoopShape.{after}
 use Rattle.ltl_formula.specs.LetterLoop.{LetterLoop, shape_of, letter_at}
 use Rattle.ltl_formula.specs.Cubes.{cube_matches}

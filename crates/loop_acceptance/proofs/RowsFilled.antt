@@ -8,8 +8,8 @@ use Rattle.std.proofs.lemmas.Bool.Decides.{eqb_tells}
 use Rattle.std.proofs.lemmas.List.{map-set, length-map, length-set}
 use Rattle.std.proofs.lemmas.List.Elements.{Contains-append_left}
 use Rattle.std.proofs.lemmas.Option.{none-some, slice_get-map, slice_get-get_or, slice_get_read, get_or_from_slice_get}
-use Rattle.sequence.proofs.Places.{contains_at, slice_get_set, slice_get_set_same, slice_get_push, slice_get_grown, slice_get-behind}
-use Rattle.sequence.proofs.Places.{take_next}
+use Rattle.base_library.proofs.Places.{contains_at, slice_get_set, slice_get_set_same, slice_get_push, slice_get_grown, slice_get-behind}
+use Rattle.base_library.proofs.Places.{take_next}
 use Rattle.cobuchi_automata.specs.Edges.{IsBetween}
 use Rattle.cobuchi_automata.specs.declared.automaton.Edge.{Edge}
 use Rattle.loop_acceptance.specs.internal.Product.{row_lists, edge_at, AreEdgeRows}

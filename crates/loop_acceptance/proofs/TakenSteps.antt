@@ -4,7 +4,7 @@ use Rattle.std.proofs.Common.{[], ◌∷◌, set, get_or, Option, Some, slice_ge
 use Rattle.std.proofs.Common.{subst, arith}
 use Rattle.std.proofs.lemmas.Bool.Decides.{eqb_tells}
 use Rattle.std.proofs.lemmas.Option.{none-some, same_Some, slice_get-get_or, slice_get_within}
-use Rattle.sequence.proofs.Places.{slice_get_set, slice_get_set_same}
+use Rattle.base_library.proofs.Places.{slice_get_set, slice_get_set_same}
 use Rattle.loop_acceptance.specs.declared.product.Step.{Step}
 use Rattle.loop_acceptance.specs.declared.marks.Mark.{Mark}
 use Rattle.loop_acceptance.specs.declared.marks.Mark.TheVariants.{Open}

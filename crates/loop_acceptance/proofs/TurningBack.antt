@@ -3,7 +3,7 @@ use Rattle.std.proofs.Common.{◌≡◌, ◌∙◌, ℕ, ◌+◌, ◌≤◌, inl
 use Rattle.std.proofs.Common.{arith}
 use Rattle.std.proofs.lemmas.Bool.{cases_lt}
 use Rattle.std.proofs.lemmas.Option.{same_Some, slice_get_within}
-use Rattle.sequence.proofs.Places.{slice_get_some}
+use Rattle.base_library.proofs.Places.{slice_get_some}
 use Rattle.loop_acceptance.specs.declared.product.Step.{Step}
 use Rattle.loop_acceptance.specs.declared.marks.Mark.{Mark}
 use Rattle.loop_acceptance.specs.declared.marks.Mark.TheVariants.{Red}

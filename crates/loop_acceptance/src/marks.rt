@@ -11,7 +11,7 @@ ghost use Rattle.loop_acceptance.specs.internal.PackedMarks.{number_of, mark_of,
 ghost use Rattle.loop_acceptance.specs.internal.Search.{is_new, is_open, is_done};
 
 use crate::pairs::Pairing;
-use sequence::NoMemory;
+use base_library::NoMemory;
 use std::alloc::Global;
 use std::marker::Model;
 

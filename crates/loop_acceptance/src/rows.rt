@@ -5,7 +5,7 @@ ghost use Rattle.std.specs.List.{AllByRecursion, list_all};
 ghost use Rattle.loop_acceptance.specs.internal.Product.{row_lists, is_short, AreEdgeRows};
 
 use cobuchi_automata::{Automaton, Edge};
-use sequence::NoMemory;
+use base_library::NoMemory;
 use std::alloc::Global;
 
 /// The edges from each state of an automaton.

@@ -10,7 +10,7 @@ ghost use Rattle.loop_acceptance.specs.internal.Search.{StepsBy, TurnsTo, LeadsT
 
 use crate::marks::{Mark, Marks};
 use crate::product::{Product, Step, node_count, place_count, product_step};
-use sequence::NoMemory;
+use base_library::NoMemory;
 use std::alloc::Global;
 
 /// An open node, and how many places of its steps are left.

@@ -1,7 +1,7 @@
 -- An until holds where its right side does, or its left side does and it holds at the position after.
 use Rattle.std.proofs.Common.{◌≡◌, ◌∙◌, ℕ, zero, suc, ◌+◌, ◌-◌, ◌<◌, ◌≤◌, inl, inr, Bool, true, ◌&&◌, ◌||◌, sym, ap, arith}
 use Rattle.std.proofs.lemmas.Bool.{or_cases, or_left, or_right, and_parts, and_from, false≢true, cases_lt}
-use Rattle.sequence.proofs.Booleans.{same_tests}
+use Rattle.base_library.proofs.Booleans.{same_tests}
 use Rattle.loop_shape.specs.LoopShape.{LoopShape, IsPosition, after, steps_on, positions_from}
 use Rattle.loop_shape.specs.AlongLoop.{holds_until, until_at, ComesAfter}
 use Rattle.loop_shape.proofs.Steps.{after_position, turned}

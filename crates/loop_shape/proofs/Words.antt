@@ -1,7 +1,7 @@
 -- The other words by the until, and their unrolling.
 use Rattle.std.proofs.Common.{◌≡◌, ◌∙◌, ℕ, Bool, true, false, not, ◌&&◌, ◌||◌, List, [], ◌∷◌, refl, sym, ap}
 use Rattle.std.specs.List.{list_all, list_any}
-use Rattle.sequence.proofs.Booleans.{not_not}
+use Rattle.base_library.proofs.Booleans.{not_not}
 use Rattle.loop_shape.specs.LoopShape.{LoopShape, IsPosition, after, reached}
 use Rattle.loop_shape.specs.AlongLoop.{holds_until, finally_at, globally_at, until_at, release_at, weak_until_at}
 use Rattle.loop_shape.proofs.Untils.{until_unrolls}

@@ -1,6 +1,6 @@
 -- The dual of a formula holds exactly where the formula fails.
 use Rattle.std.proofs.Common.{◌≡◌, ◌∙◌, ℕ, Bool, true, false, not, ◌&&◌, ◌||◌, refl, sym}
-use Rattle.sequence.proofs.Booleans.{not_not}
+use Rattle.base_library.proofs.Booleans.{not_not}
 use Rattle.loop_shape.specs.AlongLoop.{until_at, release_at}
 use Rattle.loop_shape.proofs.Words.{not_until, not_release}
 use Rattle.ltl_formula.specs.LtlTree.{LtlTree, LtlTrees, top, bottom, bit, not_bit, conjunction, disjunction, next, until, release}

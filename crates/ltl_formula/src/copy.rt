@@ -4,7 +4,7 @@ ghost use Rattle.std.specs.Prelude.{◌≡◌, map, IfOk};
 ghost use Rattle.ltl_formula.specs.LtlTree.{ltl_tree, ltl_member_trees};
 
 use crate::formula::{Ltl, LtlList};
-use sequence::NoMemory;
+use base_library::NoMemory;
 use std::alloc::Global;
 
 /// An equal formula. An `Err` says that memory ran out.

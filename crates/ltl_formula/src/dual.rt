@@ -6,7 +6,7 @@ ghost use Rattle.ltl_formula.specs.Dual.{dual, duals};
 ghost use Rattle.ltl_formula.specs.LetterLoop.{LetterLoop, holds};
 
 use crate::formula::{Ltl, LtlList};
-use sequence::NoMemory;
+use base_library::NoMemory;
 use std::alloc::Global;
 
 /// The formula that holds on exactly the letter loops, and at exactly the positions, at which this one

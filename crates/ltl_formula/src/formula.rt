@@ -4,7 +4,7 @@ ghost use Rattle.std.specs.Prelude.{◌≡◌, map, IfOk};
 ghost use Rattle.ltl_formula.specs.LtlTree.{ltl_tree, ltl_trees, ltl_formulas_of};
 ghost use Rattle.ltl_formula.specs.LtlOrder.{tree_cmp};
 
-use sequence::NoMemory;
+use base_library::NoMemory;
 use std::alloc::Global;
 use std::cmp::Ordering;
 

@@ -1,7 +1,7 @@
 -- What a controller's type keeps holds of its pure table.
 use Rattle.std.proofs.Common.{◌∙◌, slice_get, sym, ap}
 use Rattle.std.proofs.lemmas.List.{length-map}
-use Rattle.sequence.proofs.Lists.{map_map}
+use Rattle.base_library.proofs.Lists.{map_map}
 use Rattle.machines.specs.declared.controller.Controller.{Controller}
 use Rattle.machines.specs.MachineTree.{EntryTree, IsController}
 use Rattle.machines.specs.MachineView.{entry_tree, controller_tree}

@@ -3,8 +3,8 @@ use Rattle.std.proofs.Common.{◌≡◌, ◌∙◌, ℕ, ◌+◌, ◌*◌, ◌<�
 use Rattle.std.proofs.Common.{slice_get, add-one, append-nil, sym, ap, arith}
 use Rattle.std.proofs.lemmas.List.{drop_all, length-take}
 use Rattle.std.proofs.lemmas.Option.{none-some, slice_get_within, get_or_from_slice_get}
-use Rattle.sequence.proofs.Lists.{left_at, map_push_front}
-use Rattle.sequence.proofs.Places.{slice_get_taken, slice_get-drop}
+use Rattle.base_library.proofs.Lists.{left_at, map_push_front}
+use Rattle.base_library.proofs.Places.{slice_get_taken, slice_get-drop}
 use Rattle.letter_space.specs.SpaceTree.{SpaceTree}
 use Rattle.letter_space.specs.Letters.{letter_of}
 use Rattle.machines.specs.MachineTree.{EntryTree, ControllerTree, cell_at, controller_entry}

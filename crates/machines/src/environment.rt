@@ -5,7 +5,7 @@ ghost use Rattle.machines.specs.MachineTree.{NameStates};
 
 use crate::moves::Move;
 use letter_space::Space;
-use sequence::{NoMemory, Sequence};
+use base_library::{NoMemory, Sequence};
 use std::alloc::Global;
 
 /// A table that gives for each state what is true there, and for each vector of choices the state to go

@@ -6,8 +6,8 @@ use Rattle.std.specs.List.{list_all, AllByRecursion}
 use Rattle.std.proofs.lemmas.Bool.{false≢true, and_parts}
 use Rattle.std.proofs.lemmas.List.{append-nil, append_assoc}
 use Rattle.std.proofs.lemmas.List.Folds.{list_any-append}
-use Rattle.sequence.specs.Kept.{with_new, is_kept}
-use Rattle.sequence.proofs.Each.{each_both, each_joined, each_filtered}
+use Rattle.base_library.specs.Kept.{with_new, is_kept}
+use Rattle.base_library.proofs.Each.{each_both, each_joined, each_filtered}
 use Rattle.obligations.specs.Choices.{same_choice, is_within, without_repeats, is_larger, without_larger, reduced}
 use Rattle.obligations.specs.Numbers.{ChoiceKey}
 use Rattle.obligations.specs.internal.Antichains.{AreApart, IsAntichain, are_apart, is_antichain}

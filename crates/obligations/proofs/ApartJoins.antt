@@ -10,7 +10,7 @@ use Rattle.std.specs.Ordering.{nat_cmp}
 use Rattle.std.proofs.lemmas.Cmp.{ranked}
 use Rattle.std.proofs.lemmas.Bool.{eqb-true, le-ltb, false≢true, and_parts}
 use Rattle.std.proofs.lemmas.Nat.Bits.{bit_at_and, bit_at_or, bit_at-lt, bit_at-zero, bit_at-pow_same, same_from_bits}
-use Rattle.sequence.proofs.Each.{each_both, each_joined, each_map, each_weaker}
+use Rattle.base_library.proofs.Each.{each_both, each_joined, each_map, each_weaker}
 use Rattle.ltl_formula.specs.Increasing.{union}
 use Rattle.ltl_formula.proofs.IncreasingLemmas.{any-union, all-union}
 use Rattle.obligations.specs.Choices.{same_choice, is_within, is_subset, joined, joins, reduced, formed, product, most_choices}

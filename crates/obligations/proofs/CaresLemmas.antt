@@ -3,7 +3,7 @@ use Rattle.std.proofs.Common.{◌≡◌, ◌∙◌, ℕ, ◌+◌, ◌<◌, ◌�
 use Rattle.std.specs.Int.{bit_at}
 use Rattle.std.proofs.lemmas.List.{drop_all, drop_more}
 use Rattle.std.proofs.lemmas.Nat.Bits.{bit_at_or, bit_at-zero, same_from_bits}
-use Rattle.sequence.proofs.Lists.{left_at}
+use Rattle.base_library.proofs.Lists.{left_at}
 use Rattle.obligations.specs.declared.numbered.NumberedChoice.{NumberedChoice}
 use Rattle.obligations.specs.Numbers.{ChoiceKey, choice_key, choice_keys}
 use Rattle.obligations.specs.internal.Antichains.{gathered, cares, mark, marks_of, all_marks}

@@ -3,8 +3,8 @@ use Rattle.std.proofs.Common.{◌≡◌, ℕ, ◌<◌, true, nat_eq, List, [], �
 use Rattle.std.specs.Prelude.{unwrap_or}
 use Rattle.std.specs.List.{AllByRecursion}
 use Rattle.std.specs.Ordering.{nat_cmp}
-use Rattle.sequence.proofs.Each.{each_at, each_joined, each_left, each_right}
-use Rattle.sequence.proofs.Places.{slice_get_some}
+use Rattle.base_library.proofs.Each.{each_at, each_joined, each_left, each_right}
+use Rattle.base_library.proofs.Places.{slice_get_some}
 use Rattle.ltl_formula.specs.LtlTree.{LtlTree, LtlTrees, top, bottom, bit, not_bit, conjunction, disjunction, next, until, release}
 use Rattle.ltl_formula.specs.LtlTree.{no_formulas, more_formulas}
 use Rattle.ltl_formula.specs.LtlOrder.{tree_cmp}

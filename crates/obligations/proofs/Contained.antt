@@ -10,10 +10,10 @@ use Rattle.std.proofs.lemmas.Nat.{and_assoc, and_comm}
 use Rattle.std.proofs.lemmas.Nat.Bits.{bit_at_and, bit_at_or, bit_at-lt, bit_at_above, same_from_bits}
 use Rattle.std.proofs.lemmas.Option.{none-some, same_Some, slice_get-get_or}
 use Rattle.std.proofs.lemmas.Bool.{eqb-true, false≢true, and_parts, and_from, or_cases, or_left, or_right, ltb-false}
-use Rattle.sequence.proofs.Booleans.{same_tests}
-use Rattle.sequence.proofs.Each.{each_left, each_right, each_contained}
-use Rattle.sequence.proofs.Places.{contains_at}
-use Rattle.sequence.proofs.Passes.{list_any-map, list_any_place, list_any_contained}
+use Rattle.base_library.proofs.Booleans.{same_tests}
+use Rattle.base_library.proofs.Each.{each_left, each_right, each_contained}
+use Rattle.base_library.proofs.Places.{contains_at}
+use Rattle.base_library.proofs.Passes.{list_any-map, list_any_place, list_any_contained}
 use Rattle.std.proofs.Math.Bool.{or-false}
 use Rattle.ltl_formula.specs.LtlTree.{LtlTree, LtlTrees, bottom, bit, not_bit, conjunction, disjunction, next, until, release}
 use Rattle.ltl_formula.specs.LtlTree.{no_formulas, more_formulas, ltl_formulas_in}

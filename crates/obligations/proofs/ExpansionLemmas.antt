@@ -4,7 +4,7 @@ use Rattle.std.specs.List.{AllByRecursion}
 use Rattle.std.specs.declared.alloc.Global.{Global}
 use Rattle.std.proofs.lemmas.List.{length-map}
 use Rattle.std.proofs.lemmas.Option.{none-some}
-use Rattle.sequence.proofs.Each.{each_at}
+use Rattle.base_library.proofs.Each.{each_at}
 use Rattle.ltl_formula.specs.declared.formula.Ltl.{Ltl}
 use Rattle.ltl_formula.specs.LtlTree.{ltl_tree}
 use Rattle.obligations.specs.declared.numbered.NumberedChoice.{NumberedChoice}

@@ -9,7 +9,7 @@ use Rattle.std.specs.declared.cmp.Ordering.TheVariants.{Less, Equal, Greater}
 use Rattle.std.specs.Ordering.{nat_cmp, is_eq}
 use Rattle.std.proofs.lemmas.Bool.{ltb-true, eqb-true, false≢true}
 use Rattle.std.proofs.lemmas.Cmp.{tied_itself}
-use Rattle.sequence.proofs.Places.{slice_get_some}
+use Rattle.base_library.proofs.Places.{slice_get_some}
 use Rattle.obligations.specs.Named.{formula_named}
 use Rattle.ltl_formula.specs.LtlTree.{LtlTree, top}
 use Rattle.ltl_formula.specs.LtlOrder.{tree_cmp}

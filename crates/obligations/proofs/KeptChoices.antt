@@ -4,11 +4,11 @@ use Rattle.std.proofs.Common.{◌≡◌, ◌∙◌, ℕ, zero, suc, ◌<◌, ◌
 use Rattle.std.proofs.Common.{filter, slice_get, Some, if◌then◌else◌, refl, sym, ap, arith}
 use Rattle.std.specs.List.{list_any, AllByRecursion}
 use Rattle.std.proofs.lemmas.Bool.{false≢true, and_parts, not-true}
-use Rattle.sequence.specs.Kept.{with_new}
-use Rattle.sequence.proofs.Booleans.{same_tests}
-use Rattle.sequence.proofs.Each.{each_at}
-use Rattle.sequence.proofs.Places.{contains_at}
-use Rattle.sequence.proofs.Passes.{list_any_place, list_any_contained, filter_has}
+use Rattle.base_library.specs.Kept.{with_new}
+use Rattle.base_library.proofs.Booleans.{same_tests}
+use Rattle.base_library.proofs.Each.{each_at}
+use Rattle.base_library.proofs.Places.{contains_at}
+use Rattle.base_library.proofs.Passes.{list_any_place, list_any_contained, filter_has}
 use Rattle.obligations.specs.Choices.{same_choice, is_within, is_larger, without_repeats, without_larger}
 use Rattle.obligations.specs.Numbers.{ChoiceKey}
 use Rattle.obligations.specs.internal.Rounds.{IsRisingChoice, weight}

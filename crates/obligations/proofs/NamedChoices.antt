@@ -7,10 +7,10 @@ use Rattle.std.specs.Ordering.{nat_cmp}
 use Rattle.std.specs.Int.Bits.{and_self, and_zero_l}
 use Rattle.std.proofs.lemmas.List.{map-append, length-map}
 use Rattle.std.proofs.lemmas.Cmp.{nat_cmp_total}
-use Rattle.sequence.specs.Kept.{with_new}
+use Rattle.base_library.specs.Kept.{with_new}
 use Rattle.std.proofs.lemmas.Bool.{or_right}
 use Rattle.std.proofs.lemmas.Option.{same_Some}
-use Rattle.sequence.proofs.Each.{each_joined, each_filtered, each_left, each_right, each_weaker}
+use Rattle.base_library.proofs.Each.{each_joined, each_filtered, each_left, each_right, each_weaker}
 use Rattle.obligations.specs.Named.{formula_named, choice_named, IsWell}
 use Rattle.ltl_formula.specs.LtlTree.{LtlTree, LtlTrees, top, bottom, bit, not_bit, conjunction, disjunction, next, until, release}
 use Rattle.ltl_formula.specs.LtlTree.{no_formulas, more_formulas}

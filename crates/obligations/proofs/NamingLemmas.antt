@@ -3,7 +3,7 @@ use Rattle.std.proofs.Common.{◌≡◌, ◌∙◌, ℕ, ◌+◌, ◌<◌, List,
 use Rattle.std.specs.List.{insert}
 use Rattle.std.specs.declared.cmp.Ordering.{Ordering}
 use Rattle.std.proofs.lemmas.List.{map-append}
-use Rattle.sequence.proofs.Lists.{left_at}
+use Rattle.base_library.proofs.Lists.{left_at}
 use Rattle.ltl_formula.specs.declared.formula.Ltl.{Ltl}
 use Rattle.ltl_formula.specs.LtlTree.{LtlTree, LtlTrees, more_formulas, ltl_tree}
 use Rattle.ltl_formula.specs.LtlOrder.{tree_cmp}

@@ -3,7 +3,7 @@ use Rattle.std.proofs.Common.{◌≡◌, ◌∙◌, ℕ, suc, ◌+◌, Bool, tru
 use Rattle.std.proofs.Common.{refl, sym, ap, arith, nat_eq, if◌then◌else◌}
 use Rattle.std.specs.List.{list_any}
 use Rattle.std.proofs.lemmas.List.{append-nil, length-append, length-map, map_push}
-use Rattle.sequence.specs.Kept.{with_new}
+use Rattle.base_library.specs.Kept.{with_new}
 use Rattle.obligations.specs.declared.numbered.NumberedChoice.{NumberedChoice}
 use Rattle.obligations.specs.Choices.{same_choice, without_repeats}
 use Rattle.obligations.specs.Numbers.{ChoiceKey, choice_key, choice_keys}

@@ -3,9 +3,9 @@ use Rattle.std.proofs.Common.{◌≡◌, ◌∙◌, ℕ, zero, suc, ◌<◌, Boo
 use Rattle.std.proofs.Common.{nat_lt, nat_eq, slice_get, Some, refl, sym, ap, arith, eq-eqb}
 use Rattle.std.specs.List.{list_any, AllByRecursion}
 use Rattle.std.proofs.lemmas.Bool.{lt-ltb, le-ltb, ltb-true, ltb-false, eqb-true, and_parts, and_from, not-true}
-use Rattle.sequence.proofs.Booleans.{same_tests}
-use Rattle.sequence.proofs.Each.{each_at, each_from_places}
-use Rattle.sequence.proofs.Passes.{list_any_place}
+use Rattle.base_library.proofs.Booleans.{same_tests}
+use Rattle.base_library.proofs.Each.{each_at, each_from_places}
+use Rattle.base_library.proofs.Passes.{list_any_place}
 use Rattle.std.proofs.Math.Bool.{and-or_distrib_right}
 use Rattle.std.proofs.lemmas.List.Folds.{list_any-append}
 use Rattle.obligations.specs.Choices.{same_choice, is_within, is_larger}

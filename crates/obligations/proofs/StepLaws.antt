@@ -8,8 +8,8 @@ use Rattle.std.specs.Int.Bits.{and_zero_r}
 use Rattle.std.proofs.lemmas.Nat.Bits.{bit_at_above}
 use Rattle.std.proofs.lemmas.Option.{none-some, same_Some}
 use Rattle.std.proofs.lemmas.Bool.{ltb-false}
-use Rattle.sequence.proofs.Each.{each_left, each_right}
-use Rattle.sequence.proofs.Passes.{list_any-map}
+use Rattle.base_library.proofs.Each.{each_left, each_right}
+use Rattle.base_library.proofs.Passes.{list_any-map}
 use Rattle.std.proofs.Math.Bool.{or-false, and-true, and_assoc, or_assoc}
 use Rattle.obligations.specs.Named.{formula_named, choice_named}
 use Rattle.loop_shape.specs.LoopShape.{IsPosition, after}

@@ -11,7 +11,7 @@ use Rattle.std.proofs.lemmas.Bool.{le-ltb}
 use Rattle.std.proofs.lemmas.Cmp.{ranked}
 use Rattle.std.proofs.lemmas.List.{append-nil, append_assoc}
 use Rattle.std.proofs.lemmas.Nat.Bits.{bit_at_and, bit_at-zero, same_from_bits}
-use Rattle.sequence.proofs.Each.{each_between}
+use Rattle.base_library.proofs.Each.{each_between}
 use Rattle.ltl_formula.specs.Increasing.{IsIncreasing, with_member, union}
 use Rattle.obligations.specs.Choices.{joined, reduced, formed, product, most_choices, empty_choice}
 use Rattle.obligations.specs.Numbers.{ChoiceKey}

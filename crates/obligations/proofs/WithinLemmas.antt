@@ -11,7 +11,7 @@ use Rattle.std.proofs.lemmas.Nat.{and_assoc, and_comm}
 use Rattle.std.proofs.lemmas.Bool.{eqb-true, eqb-false, false≢true, and_parts, and_from, or_cases, or_left, or_right}
 use Rattle.std.proofs.lemmas.Slice.Eq.{bytes_eq-Decides}
 use Rattle.std.proofs.lemmas.Cmp.{ranked}
-use Rattle.sequence.proofs.Booleans.{eqb_self}
+use Rattle.base_library.proofs.Booleans.{eqb_self}
 use Rattle.obligations.specs.Named.{IsWell}
 use Rattle.ltl_formula.specs.LtlTree.{LtlTree}
 use Rattle.ltl_formula.specs.Increasing.{IsIncreasing}

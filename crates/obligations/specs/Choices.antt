@@ -7,7 +7,7 @@ use Rattle.std.specs.Prelude.{Option, None, Some}
 use Rattle.std.specs.List.{list_any, list_all, filter_map}
 use Rattle.std.specs.declared.cmp.Ordering.{Ordering}
 use Rattle.std.specs.Cmp.Lexicographic.{pointwise}
-use Rattle.sequence.specs.Kept.{with_new}
+use Rattle.base_library.specs.Kept.{with_new}
 use Rattle.ltl_formula.specs.Increasing.{union}
 use Rattle.obligations.specs.declared.expanding.TheConstants.{LETTER_BITS}
 use Rattle.obligations.specs.declared.step_error.TheConstants.{MOST_CHOICES}

@@ -15,7 +15,7 @@ use crate::products::{product, product_of, sum};
 use crate::searching::find;
 use crate::step_error::StepError;
 use ltl_formula::{Ltl, LtlList};
-use sequence::NoMemory;
+use base_library::NoMemory;
 use std::alloc::Global;
 
 /// How many bits a letter has.

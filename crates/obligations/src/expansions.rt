@@ -19,7 +19,7 @@ use crate::numbered::NumberedChoice;
 use crate::products::product;
 use crate::step_error::StepError;
 use ltl_formula::Ltl;
-use sequence::NoMemory;
+use base_library::NoMemory;
 use std::alloc::Global;
 
 /// A place for the expansion of each of some formulas, with none made yet. An `Err` says that memory

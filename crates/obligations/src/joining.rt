@@ -9,7 +9,7 @@ ghost use Rattle.obligations.specs.Numbers.{choice_key, choice_keys};
 use crate::numbered::NumberedChoice;
 use crate::sets::union_of;
 use crate::step_error::{MOST_CHOICES, StepError};
-use sequence::NoMemory;
+use base_library::NoMemory;
 use std::alloc::Global;
 
 /// Both choices together, or `None` where their literals contradict each other.

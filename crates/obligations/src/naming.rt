@@ -9,7 +9,7 @@ ghost use Rattle.obligations.specs.Obligations.{obligations, obligations_of_all,
 
 use crate::searching::find;
 use ltl_formula::{Ltl, LtlList};
-use sequence::NoMemory;
+use base_library::NoMemory;
 use std::alloc::Global;
 
 /// Puts a formula in its place among rising ones, unless it is there.

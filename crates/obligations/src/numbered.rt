@@ -9,7 +9,7 @@ ghost use Rattle.obligations.specs.Codes.{numbers_code};
 ghost use Rattle.obligations.specs.Numbers.{choice_key};
 ghost use Rattle.obligations.specs.Choices.{is_subset, is_within};
 
-use sequence::NoMemory;
+use base_library::NoMemory;
 use std::alloc::Global;
 use std::hash::{Hash, Hasher};
 

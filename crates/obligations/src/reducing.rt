@@ -2,7 +2,7 @@
 
 ghost use Rattle.std.specs.Prelude.{◌≡◌, ◌∷◌, ◌++◌, [], IfOk, OnOk, nat_eq, cond, not, ◌&&◌, length, map};
 ghost use Rattle.std.specs.List.{list_all};
-ghost use Rattle.sequence.specs.Kept.{is_kept, with_new};
+ghost use Rattle.base_library.specs.Kept.{is_kept, with_new};
 ghost use Rattle.obligations.specs.Choices.{is_within, same_choice, without_repeats, is_larger, without_larger, reduced};
 ghost use Rattle.obligations.specs.internal.Antichains.{are_apart, is_antichain};
 ghost use Rattle.obligations.specs.internal.Rounds.{flagged_members};
@@ -11,7 +11,7 @@ ghost use Rattle.obligations.specs.Numbers.{choice_key, choice_keys};
 use crate::numbered::NumberedChoice;
 use crate::rounds::{are_rising, without_larger_by_rounds};
 use indexmap::IndexSet;
-use sequence::NoMemory;
+use base_library::NoMemory;
 use std::alloc::Global;
 
 /// The choices of a list, equal ones once, in the order in which they first appear.

@@ -14,7 +14,7 @@ ghost use Rattle.obligations.specs.internal.Rounds.{weight, has_within, is_kept,
 
 use crate::numbered::NumberedChoice;
 use crate::reducing::add_if;
-use sequence::NoMemory;
+use base_library::NoMemory;
 use std::alloc::Global;
 
 /// How much a choice asks for and leaves.

@@ -8,7 +8,7 @@ ghost use Rattle.obligations.specs.Numbers.{lent_trees};
 ghost use Rattle.obligations.specs.Named.{formula_named};
 
 use ltl_formula::{Ltl, copy_ltl};
-use sequence::NoMemory;
+use base_library::NoMemory;
 use std::alloc::Global;
 use std::marker::Model;
 

@@ -20,7 +20,7 @@ use crate::products::product;
 use crate::set::{Set, set_named};
 use crate::step_error::StepError;
 use ltl_formula::{Cube, Ltl};
-use sequence::NoMemory;
+use base_library::NoMemory;
 use std::alloc::Global;
 
 /// What one step asks of the letter, and what it leaves for the next one.

@@ -6,7 +6,7 @@ ghost use Rattle.position_planes.specs.Positions.{IsPlaneOf, bit_of, words_of};
 ghost use Rattle.position_planes.specs.Carries.{word_bit};
 
 use crate::operators::negated;
-use sequence::NoMemory;
+use base_library::NoMemory;
 use std::alloc::Global;
 
 /// How many positions one word is for.

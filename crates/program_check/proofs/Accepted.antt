@@ -4,11 +4,11 @@ use Rattle.std.proofs.Common.{sym, ap, subst, inl, inr, arith}
 use Rattle.std.specs.List.{list_all, AllByRecursion, position}
 use Rattle.std.proofs.lemmas.Bool.{and_parts}
 use Rattle.std.proofs.lemmas.List.{length-map}
-use Rattle.sequence.proofs.Booleans.{not_not}
-use Rattle.sequence.proofs.Each.{each_weaker}
-use Rattle.sequence.proofs.Finds.{find_none_at}
-use Rattle.sequence.proofs.Options.{none_never_some}
-use Rattle.sequence.proofs.Passes.{list_all_from_places}
+use Rattle.base_library.proofs.Booleans.{not_not}
+use Rattle.base_library.proofs.Each.{each_weaker}
+use Rattle.base_library.proofs.Finds.{find_none_at}
+use Rattle.base_library.proofs.Options.{none_never_some}
+use Rattle.base_library.proofs.Passes.{list_all_from_places}
 use Rattle.tsl_terms.specs.SpecTree.{SpecTree, whole_formula}
 use Rattle.tsl_terms.specs.Signals.{cells_of, outputs_of, choices_of}
 use Rattle.tsl_terms.specs.Predicates.{predicates_of}

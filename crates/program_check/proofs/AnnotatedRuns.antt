@@ -1,6 +1,6 @@
 -- A program whose controller has an annotation for the negation of a formula meets the formula.
 use Rattle.std.proofs.Common.{◌∙◌, ℕ, ◌≤◌, not, List, length, Option, sym, ap, arith}
-use Rattle.sequence.proofs.Booleans.{not_not}
+use Rattle.base_library.proofs.Booleans.{not_not}
 use Rattle.loop_shape.specs.LoopShape.{LoopShape, IsPosition}
 use Rattle.tsl_terms.specs.declared.operator.UnaryOperator.TheVariants.{Negation}
 use Rattle.tsl_terms.specs.Name.{Name}

@@ -2,7 +2,7 @@
 use Rattle.std.proofs.Common.{◌≡◌, ◌∙◌, ℕ, ◌+◌, ◌<◌, ◌≤◌, ◌&&◌, Bool, true, false, List, length, map, drop, get_or, refl, sym, ap, arith}
 use Rattle.std.specs.Prelude.{is_some}
 use Rattle.std.proofs.lemmas.List.{drop_all, length-map}
-use Rattle.sequence.proofs.Lists.{left_at}
+use Rattle.base_library.proofs.Lists.{left_at}
 use Rattle.tsl_terms.specs.declared.term.Term.{Term}
 use Rattle.tsl_terms.specs.TermTree.{term_tree}
 use Rattle.letter_space.specs.declared.controlled.Controlled.{Controlled}

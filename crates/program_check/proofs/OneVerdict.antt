@@ -1,6 +1,6 @@
 -- A program has at most one verdict under a specification and a bound.
 use Rattle.std.proofs.Common.{◌≡◌, ◌∙◌, ℕ, List, Some, None, slice_get, sym, refl, ap}
-use Rattle.sequence.proofs.Options.{one_value, none_never_some}
+use Rattle.base_library.proofs.Options.{one_value, none_never_some}
 use Rattle.tsl_terms.specs.TermTree.{TermTree, ProbeTree}
 use Rattle.tsl_terms.specs.SpecTree.{SpecTree}
 use Rattle.program_tree.specs.NodeTree.{branch, assign}

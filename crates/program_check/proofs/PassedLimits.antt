@@ -1,6 +1,6 @@
 -- Where a limit is passed, a program has no verdict within the limits of bits.
 use Rattle.std.proofs.Common.{ℕ, ◌<◌, ◌≤◌, List, length, arith}
-use Rattle.sequence.proofs.Options.{none_never_some}
+use Rattle.base_library.proofs.Options.{none_never_some}
 use Rattle.tsl_terms.specs.SpecTree.{SpecTree}
 use Rattle.tsl_terms.specs.Predicates.{predicates_of}
 use Rattle.program_tree.specs.ProgramTree.{ProgramTree}

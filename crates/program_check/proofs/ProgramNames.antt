@@ -6,9 +6,9 @@ use Rattle.std.specs.Prelude.{filter, is_some}
 use Rattle.std.specs.List.{list_all, AllByRecursion}
 use Rattle.std.proofs.lemmas.Bool.{and_parts, and_from, eqb-true, false≢true}
 use Rattle.std.proofs.lemmas.List.{length-map}
-use Rattle.sequence.proofs.Each.{each_unmapped}
-use Rattle.sequence.proofs.Finds.{found_has, found_passes}
-use Rattle.sequence.proofs.Passes.{list_all_weaker, list_all_joined, passes_at, list_any_place, each_from_list_all}
+use Rattle.base_library.proofs.Each.{each_unmapped}
+use Rattle.base_library.proofs.Finds.{found_has, found_passes}
+use Rattle.base_library.proofs.Passes.{list_all_weaker, list_all_joined, passes_at, list_any_place, each_from_list_all}
 use Rattle.tsl_terms.specs.declared.names.NameKind.TheVariants.{Signal}
 use Rattle.tsl_terms.specs.declared.spec.Spec.{Spec}
 use Rattle.tsl_terms.specs.Name.{Name, is_name}

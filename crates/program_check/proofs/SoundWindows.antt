@@ -4,10 +4,10 @@ use Rattle.std.proofs.Common.{map, take, get_or, Option, Some, option_map, slice
 use Rattle.std.specs.List.{list_all, AllByRecursion}
 use Rattle.std.proofs.lemmas.Bool.{and_parts, cases_lt}
 use Rattle.std.proofs.lemmas.Option.{slice_get-map, slice_get_read}
-use Rattle.sequence.specs.Numbers.{is_among}
-use Rattle.sequence.proofs.Each.{each_at, each_joined, each_weaker}
-use Rattle.sequence.proofs.Passes.{each_from_list_all, passes_at}
-use Rattle.sequence.proofs.Places.{slice_get_taken, take_next}
+use Rattle.base_library.specs.Numbers.{is_among}
+use Rattle.base_library.proofs.Each.{each_at, each_joined, each_weaker}
+use Rattle.base_library.proofs.Passes.{each_from_list_all, passes_at}
+use Rattle.base_library.proofs.Places.{slice_get_taken, take_next}
 use Rattle.tsl_terms.specs.declared.window.Window.{Window}
 use Rattle.tsl_terms.specs.WindowTree.{ListedTree, WindowTree, window_tree}
 use Rattle.tsl_terms.specs.Congruence.{IsCongruent, UpdateCells}

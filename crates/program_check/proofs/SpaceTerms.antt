@@ -4,10 +4,10 @@ use Rattle.std.proofs.Common.{◌≡◌, ◌∙◌, ℕ, ◌+◌, ◌==◌, Bool
 use Rattle.std.specs.Prelude.{is_some, flat_map, option_and_then}
 use Rattle.std.specs.List.{list_all, AllByRecursion}
 use Rattle.std.proofs.lemmas.Bool.{and_parts, and_from, false≢true}
-use Rattle.sequence.proofs.Each.{each_joined, each_filtered, each_flat_map, each_weaker}
-use Rattle.sequence.proofs.Finds.{found_has}
-use Rattle.sequence.proofs.Options.{some_is, there_before}
-use Rattle.sequence.proofs.Passes.{each_from_list_all, list_all_from_each, list_all_weaker, passes_at}
+use Rattle.base_library.proofs.Each.{each_joined, each_filtered, each_flat_map, each_weaker}
+use Rattle.base_library.proofs.Finds.{found_has}
+use Rattle.base_library.proofs.Options.{some_is, there_before}
+use Rattle.base_library.proofs.Passes.{each_from_list_all, list_all_from_each, list_all_weaker, passes_at}
 use Rattle.tsl_terms.specs.TermTree.{TermTree, ProbeTree, signal}
 use Rattle.tsl_terms.specs.FormulaTree.{Atom, test, update}
 use Rattle.tsl_terms.specs.Atoms.{atoms}

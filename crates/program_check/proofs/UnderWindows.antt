@@ -4,8 +4,8 @@ use Rattle.std.proofs.Common.{◌≡◌, ◌∙◌, ℕ, true, not, ◌||◌, Li
 use Rattle.std.specs.Prelude.{is_some}
 use Rattle.std.specs.List.{list_all, AllByRecursion}
 use Rattle.std.proofs.lemmas.Bool.{and_parts, and_from}
-use Rattle.sequence.proofs.Each.{each_joined, each_flat_map, each_map, each_weaker}
-use Rattle.sequence.proofs.Passes.{each_from_list_all}
+use Rattle.base_library.proofs.Each.{each_joined, each_flat_map, each_map, each_weaker}
+use Rattle.base_library.proofs.Passes.{each_from_list_all}
 use Rattle.tsl_terms.specs.FormulaTree.{Atom, test, update, FormulaTree, formulas_of}
 use Rattle.tsl_terms.specs.Atoms.{atoms}
 use Rattle.tsl_terms.specs.SpecTree.{SpecTree, conjunction_of, whole_formula}

@@ -23,7 +23,7 @@ use control_flow_model::controller_of;
 use letter_space::{Space, space_of};
 use machines::Side;
 use program_tree::Program;
-use sequence::NoMemory;
+use base_library::NoMemory;
 use std::alloc::Global;
 use tsl_terms::{Formula, SignalLists, Spec, Window, signals, under, whole};
 use underapprox::to_letters;

@@ -2,7 +2,7 @@
 
 use cobuchi_automata::BuildError;
 use letter_space::SpaceError;
-use sequence::NoMemory;
+use base_library::NoMemory;
 use std::alloc::AllocFailed;
 use thiserror::Error;
 

@@ -13,7 +13,7 @@ ghost use Rattle.program_check.specs.Verdicts.{window_has_bits, AreSound, IsUnso
 
 use letter_space::Space;
 use program_tree::Program;
-use sequence::NoMemory;
+use base_library::NoMemory;
 use std::alloc::Global;
 use term_congruence::congruent;
 use tsl_terms::{Equated, Listed, Probe, Spec, Window, equality_of};

@@ -7,7 +7,7 @@ use Rattle.std.specs.List.{list_all}
 use Rattle.std.proofs.lemmas.Bool.{and_parts, and_from, eqb-true, ne_eqb, false≢true, false_from_ne_true}
 use Rattle.std.proofs.lemmas.List.{append-nil}
 use Rattle.std.proofs.lemmas.List.Folds.{list_all-append}
-use Rattle.sequence.proofs.Passes.{list_all_joined, list_all_weaker}
+use Rattle.base_library.proofs.Passes.{list_all_joined, list_all_weaker}
 use Rattle.tsl_text.specs.Lines.{is_line_byte}
 use Rattle.tsl_text.specs.Names.{is_name_byte, is_usable}
 use Rattle.tsl_text.specs.Written.{is_line}

@@ -1,6 +1,6 @@
 -- Lists of surface terms that are built member by member.
 use Rattle.std.proofs.Common.{◌≡◌, List, [], ◌∷◌, ◌++◌, map, refl, ap}
-use Rattle.sequence.proofs.Lists.{with_front, with_front_push}
+use Rattle.base_library.proofs.Lists.{with_front, with_front_push}
 use Rattle.program_listing.specs.declared.listing.SurfaceTerm.{SurfaceTerm}
 use Rattle.program_listing.specs.ListingTree.{SurfaceTermTree, SurfaceTermTrees, no_surfaces, more_surfaces, surface_tree}
 use Rattle.program_listing.specs.internal.LineReading.{surfaces_of}

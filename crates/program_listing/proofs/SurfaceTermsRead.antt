@@ -8,7 +8,7 @@ use Rattle.std.proofs.Math.Nat.{le-max_left, le-max_right, max-le}
 use Rattle.std.proofs.lemmas.Bool.{and_parts, and_from, cond-true, cond-false, leb-true, le-leb, false_from_ne_true, or_right, ne_eqb}
 use Rattle.std.proofs.lemmas.Bool.{false≢true}
 use Rattle.std.proofs.lemmas.Option.{IfSome_then}
-use Rattle.sequence.proofs.Booleans.{same_tests}
+use Rattle.base_library.proofs.Booleans.{same_tests}
 use Rattle.tsl_text.specs.Names.{is_name_start, is_name_byte, is_name_text, is_reserved, is_usable}
 use Rattle.term_text.proofs.Fronts.{name_first, no_digit_begins, no_bracket_begins}
 use Rattle.program_listing.specs.declared.listing.Name.{Name}

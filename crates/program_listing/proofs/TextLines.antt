@@ -8,8 +8,8 @@ use Rattle.std.proofs.lemmas.Bool.{and_parts, and_from, false≢true}
 use Rattle.std.proofs.lemmas.List.{append-nil, map-append, drop-append-le, take-append-le, length-drop}
 use Rattle.std.proofs.lemmas.Option.{none-some, same_Some, cond_some}
 use Rattle.std.proofs.Math.Seq.{take-append_seam, drop-append-add}
-use Rattle.sequence.proofs.Options.{is_none_is}
-use Rattle.sequence.proofs.Places.{slice_get_push, slice_get-behind}
+use Rattle.base_library.proofs.Options.{is_none_is}
+use Rattle.base_library.proofs.Places.{slice_get_push, slice_get-behind}
 use Rattle.tsl_text.specs.Written.{is_line, text_of_lines}
 use Rattle.tsl_terms.specs.declared.names.NameKind.TheVariants.{Signal}
 use Rattle.tsl_terms.specs.Name.{AreDistinct, number_of, Name as NameEntry}

@@ -5,7 +5,7 @@ ghost use Rattle.std.specs.Prelude.{◌≡◌, map, IfOk};
 ghost use Rattle.program_listing.specs.ListingTree.{surface_tree, surface_trees, window_line, left_step, listing_tree, empty_listing};
 ghost use Rattle.program_listing.specs.internal.LineReading.{surfaces_of};
 
-use sequence::NoMemory;
+use base_library::NoMemory;
 use std::alloc::{AllocFailed, Global};
 
 /// Where a name stands in a text.

@@ -15,7 +15,7 @@ use crate::line::{Line, read_line};
 use crate::listing::{ListingError, Name, ProgramSyntax};
 use crate::rest::{LineError, Rest};
 use line_formats::{LastLine, LineReader, TextError, read_text};
-use sequence::NoMemory;
+use base_library::NoMemory;
 use std::alloc::Global;
 use tsl_terms::{NameKind, Names};
 

@@ -2,7 +2,7 @@
 
 ghost use Rattle.std.specs.Prelude.{◌+◌, ◌<◌, ◌^◌, length};
 
-use sequence::NoMemory;
+use base_library::NoMemory;
 use std::alloc::AllocFailed;
 
 /// What is left of a line.

@@ -12,7 +12,7 @@ ghost use Rattle.program_listing.specs.internal.LineReading.{surface_in_brackets
 use crate::listing::{Name, SurfaceTerm, SurfaceTermList};
 use crate::rest::{LineError, Reading, Rest};
 use crate::words::{expect, first_name, is_name_start, name_len, past};
-use sequence::NoMemory;
+use base_library::NoMemory;
 use std::alloc::Global;
 use tsl_terms::DEEPEST_BRACKETS;
 

@@ -4,7 +4,7 @@ use Rattle.std.proofs.Common.{slice_get, refl, sym, ap, subst, arith}
 use Rattle.std.specs.Prelude.{option_and_then, option_map, IsSome}
 use Rattle.std.proofs.lemmas.List.{length-map}
 use Rattle.std.proofs.lemmas.Option.{slice_get-map, slice_get_within, slice_get_read, slice_get-get_or}
-use Rattle.sequence.proofs.Options.{there_before, none_never_there}
+use Rattle.base_library.proofs.Options.{there_before, none_never_there}
 use Rattle.tsl_terms.specs.TermTree.{TermTree, ProbeTree}
 use Rattle.program_tree.specs.declared.node.Node.{Node}
 use Rattle.program_tree.specs.NodeTree.{NodeTree, branch, assign, node_tree}

@@ -2,7 +2,7 @@
 use Rattle.std.specs.Prelude.{◌≡◌, ℕ, ◌<◌, Bool, true, false, not, ◌&&◌, ◌||◌, ◌==◌, nat_le, nat_lt, List, [], ◌∷◌, length, slice_get}
 use Rattle.std.specs.Prelude.{Option, Some, None, IsTrue, ◌+◌, ◌++◌}
 use Rattle.std.specs.List.{list_all}
-use Rattle.sequence.specs.Numbers.{is_among}
+use Rattle.base_library.specs.Numbers.{is_among}
 use Rattle.tsl_terms.specs.TermTree.{TermTree, ProbeTree, count_of_terms}
 use Rattle.tsl_terms.specs.SameTree.{same_probe_tree}
 use Rattle.tsl_terms.specs.OnlyThese.{reads_only, read_only}
@@ -10,7 +10,7 @@ use Rattle.tsl_terms.specs.WindowTree.{WindowTree, ListedTree, EquatedTree, wind
 use Rattle.program_tree.specs.declared.limits.TheConstants.{LONGEST_WINDOW}
 use Rattle.program_tree.specs.NodeTree.{NodeTree, branch, assign}
 use Rattle.program_tree.specs.ProgramTree.{ProgramTree}
-use Rattle.sequence.specs.Numbers.{IsDistinct}
+use Rattle.base_library.specs.Numbers.{IsDistinct}
 
 -- a test names smaller nodes, and reads these signals only
 abbrev pub BranchesFit : List ℕ → List NodeTree → Type 0

@@ -1,6 +1,6 @@
 //! Nodes of a program.
 
-use sequence::Sequence;
+use base_library::Sequence;
 use tsl_terms::{Probe, Term};
 
 /// A node of a program. Tests lead from a state's first node to the node that says what is done.

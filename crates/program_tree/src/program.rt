@@ -3,12 +3,12 @@
 ghost use Rattle.std.specs.Prelude.{◌+◌, ◌++◌, length, map, IsTrue};
 ghost use Rattle.std.specs.List.{list_all};
 ghost use Rattle.tsl_terms.specs.WindowTree.{window_tree};
-ghost use Rattle.sequence.specs.Numbers.{IsDistinct};
+ghost use Rattle.base_library.specs.Numbers.{IsDistinct};
 ghost use Rattle.program_tree.specs.Fits.{BranchesFit, AssignmentsFit, StatesFit, window_fits};
 ghost use Rattle.program_tree.specs.NodeTree.{node_tree};
 
 use crate::node::Node;
-use sequence::Sequence;
+use base_library::Sequence;
 use tsl_terms::Window;
 
 /// A program: a finite machine over terms. It begins in state 0. At each step it walks from its

@@ -3,10 +3,10 @@ use Rattle.std.proofs.Common.{◌≡◌, ◌∙◌, ℕ, zero, suc, ◌+◌, ◌
 use Rattle.std.proofs.Common.{List, [], ◌∷◌, ◌++◌, length, Some, slice_get, refl, sym, ap, subst, arith}
 use Rattle.std.specs.List.{flat_map, range_with_len, sum_by}
 use Rattle.std.proofs.lemmas.Option.{none-some, same_Some, slice_get_within}
-use Rattle.sequence.proofs.Booleans.{same_tests}
-use Rattle.sequence.proofs.Each.{each_at}
-use Rattle.sequence.proofs.Options.{one_value}
-use Rattle.sequence.proofs.Places.{contains_at}
+use Rattle.base_library.proofs.Booleans.{same_tests}
+use Rattle.base_library.proofs.Each.{each_at}
+use Rattle.base_library.proofs.Options.{one_value}
+use Rattle.base_library.proofs.Places.{contains_at}
 use Rattle.ltl_formula.specs.LtlTree.{LtlTree}
 use Rattle.ltl_formula.specs.Cubes.{cube_matches}
 use Rattle.letter_space.specs.SpaceTree.{bit_count}

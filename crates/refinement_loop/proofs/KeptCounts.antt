@@ -3,7 +3,7 @@ use Rattle.std.proofs.Common.{◌≡◌, ◌∙◌, ℕ, suc, ◌+◌, Bool, tru
 use Rattle.std.proofs.Common.{refl, sym, ap, length-append}
 use Rattle.std.specs.List.{flat_map, sum_by}
 use Rattle.std.proofs.lemmas.List.Sums.{sum_by-cons}
-use Rattle.sequence.proofs.Booleans.{same_tests}
+use Rattle.base_library.proofs.Booleans.{same_tests}
 use Rattle.clause_core.specs.Literals.{Lit, negation, has}
 use Rattle.clause_core.specs.Clauses.{in_order, has_pair}
 use Rattle.clause_core.proofs.Sets.{has-in_order, pair_from, has_pair_from}

@@ -5,9 +5,9 @@ use Rattle.std.proofs.Common.{refl, sym, ap, subst, arith}
 use Rattle.std.proofs.lemmas.Bool.{cases_lt}
 use Rattle.std.proofs.lemmas.Option.{slice_get_within}
 use Rattle.std.proofs.Math.Nat.{div-lt_iff_lt-mul}
-use Rattle.sequence.proofs.Each.{each_from_places}
-use Rattle.sequence.proofs.Options.{one_value}
-use Rattle.sequence.proofs.Places.{slice_get_some, slice_get_one, slice_get_mapped}
+use Rattle.base_library.proofs.Each.{each_from_places}
+use Rattle.base_library.proofs.Options.{one_value}
+use Rattle.base_library.proofs.Places.{slice_get_some, slice_get_one, slice_get_mapped}
 use Rattle.program_tree.specs.ProgramTree.{ProgramTree}
 use Rattle.letter_space.specs.SpaceTree.{SpaceTree}
 use Rattle.letter_space.specs.Letters.{ArePicks}

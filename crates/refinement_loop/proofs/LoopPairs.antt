@@ -3,7 +3,7 @@
 use Rattle.std.proofs.Common.{◌≡◌, ◌∙◌, ℕ, ◌+◌, ◌<◌, ◌≤◌, inl, inr, Bool, true, false, not, cond, List, [], ◌∷◌, filter, map, length}
 use Rattle.std.proofs.Common.{refl, sym, ap, arith, nat_le}
 use Rattle.std.proofs.lemmas.Bool.{or_cases, or_left, or_right, leb-true, false≢true, true≢false}
-use Rattle.sequence.proofs.Passes.{list_any-map, list_any_place}
+use Rattle.base_library.proofs.Passes.{list_any-map, list_any_place}
 use Rattle.ltl_formula.specs.Cubes.{has_bit}
 use Rattle.cobuchi_automata.specs.Automata.{EdgeTree}
 use Rattle.clause_core.specs.Literals.{Lit, negation, same, has}

@@ -6,9 +6,9 @@ use Rattle.std.proofs.lemmas.Bool.{cases_order}
 use Rattle.std.proofs.lemmas.List.{length-take-le}
 use Rattle.std.proofs.lemmas.List.Sums.{sum_by-append, sum_by-cons}
 use Rattle.std.proofs.lemmas.Option.{slice_get_within}
-use Rattle.sequence.proofs.Options.{one_value}
-use Rattle.sequence.proofs.Places.{split_at, slice_get_taken, slice_get_grown, slice_get-drop, slice_get-append}
-use Rattle.sequence.specs.Once.{StandOnce}
+use Rattle.base_library.proofs.Options.{one_value}
+use Rattle.base_library.proofs.Places.{split_at, slice_get_taken, slice_get_grown, slice_get-drop, slice_get-append}
+use Rattle.base_library.specs.Once.{StandOnce}
 
 module _ {X Y : Type 0} (R : X → Y → Type 0) (alone : (x z : X) (y : Y) → R x y → R z y → x ≡ z) (f : X → ℕ) (g : Y → ℕ)
     (as_much : (x : X) (y : Y) → R x y → f x ≡ g y) where

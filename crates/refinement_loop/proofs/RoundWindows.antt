@@ -6,10 +6,10 @@ use Rattle.std.specs.Prelude.{is_some, option_map, option_and_then, position}
 use Rattle.std.specs.List.{list_all, AllByRecursion}
 use Rattle.std.proofs.lemmas.Bool.{and_parts, and_from}
 use Rattle.std.proofs.lemmas.Option.{none-some}
-use Rattle.sequence.specs.Numbers.{is_among}
-use Rattle.sequence.proofs.Each.{each_weaker}
-use Rattle.sequence.proofs.Numbers.{among_filter}
-use Rattle.sequence.proofs.Passes.{each_from_list_all, list_all_from_each, list_all_weaker}
+use Rattle.base_library.specs.Numbers.{is_among}
+use Rattle.base_library.proofs.Each.{each_weaker}
+use Rattle.base_library.proofs.Numbers.{among_filter}
+use Rattle.base_library.proofs.Passes.{each_from_list_all, list_all_from_each, list_all_weaker}
 use Rattle.tsl_terms.specs.TermTree.{TermTree, ProbeTree}
 use Rattle.tsl_terms.specs.SameTree.{same_tree, same_probe_tree}
 use Rattle.tsl_terms.specs.OnlyThese.{reads_only, read_only, atom_reads_only}

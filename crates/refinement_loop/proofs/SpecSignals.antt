@@ -1,10 +1,10 @@
 -- The signals and the bits of a specification, as the program of a controller wants them.
 use Rattle.std.proofs.Common.{◌≡◌, ◌∙◌, ℕ, true, List, ◌++◌, length, map, sym, ap, subst}
 use Rattle.std.proofs.lemmas.Bool.{and_parts}
-use Rattle.sequence.specs.Numbers.{is_among, IsDistinct}
-use Rattle.sequence.proofs.Each.{each_from_places}
-use Rattle.sequence.proofs.Numbers.{among_at, distinct_front, distinct_behind}
-use Rattle.sequence.proofs.Places.{slice_get_grown}
+use Rattle.base_library.specs.Numbers.{is_among, IsDistinct}
+use Rattle.base_library.proofs.Each.{each_from_places}
+use Rattle.base_library.proofs.Numbers.{among_at, distinct_front, distinct_behind}
+use Rattle.base_library.proofs.Places.{slice_get_grown}
 use Rattle.tsl_terms.specs.TermTree.{ProbeTree}
 use Rattle.tsl_terms.specs.OnlyThese.{reads_only, read_only, atom_reads_only}
 use Rattle.tsl_terms.specs.SpecTree.{SpecTree, whole_formula}

@@ -4,8 +4,8 @@ use Rattle.std.specs.Prelude.{is_some}
 use Rattle.std.specs.List.{list_all, AllByRecursion}
 use Rattle.std.proofs.lemmas.Bool.{and_parts, and_from}
 use Rattle.std.proofs.Math.Nat.{mul-le-mul, pow-le-pow_right}
-use Rattle.sequence.proofs.Each.{each_both, each_joined, each_map, each_weaker}
-use Rattle.sequence.proofs.Passes.{each_from_list_all, list_all_from_each, list_all_weaker}
+use Rattle.base_library.proofs.Each.{each_both, each_joined, each_map, each_weaker}
+use Rattle.base_library.proofs.Passes.{each_from_list_all, list_all_from_each, list_all_weaker}
 use Rattle.tsl_terms.specs.declared.names.NameKind.TheVariants.{Signal}
 use Rattle.tsl_terms.specs.Name.{Name, is_name}
 use Rattle.tsl_terms.specs.TermTree.{TermTree, ProbeTree, signal}

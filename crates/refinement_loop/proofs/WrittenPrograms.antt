@@ -4,8 +4,8 @@ use Rattle.std.proofs.Common.{◌≡◌, ◌∙◌, ℕ, Bool, true, not, List, 
 use Rattle.std.proofs.Common.{refl, sym, ap, subst, inl, inr, arith}
 use Rattle.std.specs.List.{list_all, AllByRecursion, position}
 use Rattle.std.proofs.lemmas.Bool.{and_from, false≢true}
-use Rattle.sequence.proofs.Each.{each_weaker}
-use Rattle.sequence.proofs.Passes.{passes_at}
+use Rattle.base_library.proofs.Each.{each_weaker}
+use Rattle.base_library.proofs.Passes.{passes_at}
 use Rattle.tsl_terms.specs.SpecTree.{SpecTree}
 use Rattle.tsl_terms.specs.Signals.{inputs_of, cells_of, outputs_of, choices_of}
 use Rattle.tsl_terms.specs.Predicates.{predicates_of}

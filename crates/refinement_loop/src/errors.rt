@@ -8,7 +8,7 @@ use branch_finder::BranchError;
 use counterstrategy::DualError;
 use machines::Round;
 use program_check::{CheckError, Limit};
-use sequence::{NoMemory, Sequence};
+use base_library::{NoMemory, Sequence};
 use std::alloc::AllocFailed;
 use thiserror::Error;
 

@@ -10,7 +10,7 @@ use cobuchi_automata::Automaton;
 use letter_space::Space;
 use machines::{Environment, Round, Side};
 use program_tree::Program;
-use sequence::Sequence;
+use base_library::Sequence;
 
 /// The largest number that the annotation of a controller may have.
 #[derive(Clone, Copy, Debug, PartialEq, Eq)]

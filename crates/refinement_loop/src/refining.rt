@@ -20,7 +20,7 @@ use crate::turning::{Turn, Turned, next_turn};
 use letter_space::{Space, space_of};
 use machines::Round;
 use program_check::CheckError;
-use sequence::Sequence;
+use base_library::Sequence;
 use std::alloc::Global;
 use tsl_terms::Spec;
 

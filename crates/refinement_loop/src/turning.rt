@@ -32,7 +32,7 @@ use letter_space::Space;
 use machines::{Controller, Environment, Round, Side};
 use program_check::CheckError;
 use program_tree::Program;
-use sequence::{NoMemory, Sequence};
+use base_library::{NoMemory, Sequence};
 use std::alloc::Global;
 use tsl_terms::{Spec, Window, copy_window, equality_of, signals};
 

@@ -14,8 +14,8 @@ use Rattle.refutation_check.specs.declared.lrat.Line.TheVariants.{Says, NoEffect
 use Rattle.tsl_text.specs.Lines.{NumberedLine}
 use Rattle.tsl_text.specs.Numbers.{signed_number_in}
 use Rattle.refutation_check.specs.Numbers.{is_zero}
-use Rattle.sequence.proofs.Passes.{not_all as some_fails}
-use Rattle.sequence.specs.Options.{all_there, passes}
+use Rattle.base_library.proofs.Passes.{not_all as some_fails}
+use Rattle.base_library.specs.Options.{all_there, passes}
 use Rattle.refutation_check.specs.LogText.{is_log, is_literal, is_hint, step_of, step_of_parts, step_of_numbers, line_answer, is_wrong}
 use Rattle.refutation_check.specs.LogText.{step_in}
 use Rattle.refutation_check.specs.internal.Reading.{with_literals, with_hints, with_both, log_among, log_after, HasHintsWithin}

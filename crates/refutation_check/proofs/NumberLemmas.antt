@@ -6,7 +6,7 @@ use Rattle.std.specs.List.{slice_split, onto_first, list_all}
 use Rattle.std.specs.Char.{is_ascii_digit}
 use Rattle.std.proofs.lemmas.Bool.{and_parts, false≢true, leb-true, eqb-false}
 use Rattle.std.proofs.lemmas.List.Sums.{sum_by-cons}
-use Rattle.sequence.specs.Options.{passes}
+use Rattle.base_library.specs.Options.{passes}
 use Rattle.tsl_text.specs.Numbers.{is_digits, value_of, number_in, opposite, signed_number_in}
 use Rattle.refutation_check.specs.Numbers.{is_zero}
 use Rattle.refutation_check.specs.internal.Reading.{begins_with_zero}

@@ -4,7 +4,7 @@ use Rattle.std.specs.Prelude.{find, filter_map, codes, bytes_eq, Option, Some, N
 use Rattle.std.specs.List.{list_all, slice_split}
 use Rattle.clause_core.specs.Literals.{literal_of}
 use Rattle.clause_core.specs.Clauses.{in_order}
-use Rattle.sequence.specs.Options.{all_there, passes}
+use Rattle.base_library.specs.Options.{all_there, passes}
 use Rattle.tsl_text.specs.Lines.{NumberedLine, numbered_lines, words}
 use Rattle.tsl_text.specs.Numbers.{number_in, signed_number_in}
 use Rattle.refutation_check.specs.DataLines.{is_comment}

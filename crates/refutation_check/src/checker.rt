@@ -11,7 +11,7 @@ ghost use Rattle.refutation_check.specs.internal.Accepted.{numbered, known_after
 use crate::marks::{Look, Marks};
 use crate::steps::{Log, Step};
 use clause_core::{Clause, Cnf, Literal, is_tautology};
-use sequence::NoMemory;
+use base_library::NoMemory;
 use std::alloc::Global;
 use thiserror::Error;
 

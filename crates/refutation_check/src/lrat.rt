@@ -12,7 +12,7 @@ use crate::lines::is_comment;
 use crate::numbers::{ends_list, hint_in, literal_in};
 use crate::steps::{Log, Step};
 use clause_core::{Literal, clause_of};
-use sequence::{NoMemory, Sequence};
+use base_library::{NoMemory, Sequence};
 use std::alloc::{AllocFailed, Global};
 use thiserror::Error;
 use tsl_text::{first_line, first_word, lines_of, number_in};

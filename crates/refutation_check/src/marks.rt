@@ -8,7 +8,7 @@ ghost use Rattle.refutation_check.specs.Checking.{effect_of_open};
 ghost use Rattle.refutation_check.specs.internal.Marks.{with_true, effect_of};
 
 use clause_core::{Clause, Literal};
-use sequence::NoMemory;
+use base_library::NoMemory;
 use std::alloc::Global;
 use std::marker::Model;
 

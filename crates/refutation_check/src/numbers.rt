@@ -1,7 +1,7 @@
 //! Numbers that words mean.
 
 ghost use Rattle.std.specs.Prelude.{◌≡◌, ◌<◌, true, Some, pos, is_some, IfSome};
-ghost use Rattle.sequence.specs.Options.{passes};
+ghost use Rattle.base_library.specs.Options.{passes};
 ghost use Rattle.clause_core.specs.Literals.{signed_number_of};
 ghost use Rattle.tsl_text.specs.Numbers.{signed_number_in};
 ghost use Rattle.refutation_check.specs.Numbers.{is_zero};

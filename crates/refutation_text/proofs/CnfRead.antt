@@ -7,7 +7,7 @@ use Rattle.std.specs.List.{list_all}
 use Rattle.std.proofs.lemmas.Bool.{and_parts, and_from, le-leb, lt-ltb}
 use Rattle.std.proofs.lemmas.List.Elements.{All-head, All-tail}
 use Rattle.std.proofs.lemmas.List.Folds.{list_all-append}
-use Rattle.sequence.specs.Options.{passes}
+use Rattle.base_library.specs.Options.{passes}
 use Rattle.tsl_text.specs.Lines.{NumberedLine, is_line_byte, words, with_numbers, numbered_lines}
 use Rattle.tsl_text.specs.Numbers.{number_in, signed_number_in}
 use Rattle.tsl_text.specs.Written.{is_line, text_of_lines}

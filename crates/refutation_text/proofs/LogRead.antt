@@ -7,8 +7,8 @@ use Rattle.std.specs.List.{list_all, cons_option}
 use Rattle.std.proofs.lemmas.Bool.{and_from}
 use Rattle.std.proofs.lemmas.List.Folds.{list_all-append}
 use Rattle.std.proofs.lemmas.List.Elements.{All-head, All-tail, All-nil, All-cons}
-use Rattle.sequence.specs.Options.{all_there}
-use Rattle.sequence.proofs.Bytes.{same_bytes}
+use Rattle.base_library.specs.Options.{all_there}
+use Rattle.base_library.proofs.Bytes.{same_bytes}
 use Rattle.tsl_text.specs.Lines.{is_line_byte, words}
 use Rattle.tsl_text.specs.Numbers.{signed_number_in}
 use Rattle.tsl_text.specs.Written.{is_line}

@@ -7,8 +7,8 @@ use Rattle.std.specs.List.{list_all, AllByRecursion}
 use Rattle.std.proofs.lemmas.Bool.{and_parts, and_from, leb-true, ne_eqb, true≢false}
 use Rattle.std.proofs.lemmas.Fmt.{decimal_nonempty}
 use Rattle.std.proofs.lemmas.List.Folds.{list_all-append}
-use Rattle.sequence.specs.Options.{all_there}
-use Rattle.sequence.proofs.Passes.{list_all_weaker}
+use Rattle.base_library.specs.Options.{all_there}
+use Rattle.base_library.proofs.Passes.{list_all_weaker}
 use Rattle.tsl_text.specs.Lines.{is_blank, has_bytes, is_line_byte, words}
 use Rattle.tsl_text.specs.Numbers.{number_in, has_leading_zero, opposite, signed_number_in}
 use Rattle.tsl_text.specs.Written.{is_line}

@@ -7,7 +7,7 @@ ghost use Rattle.refutation_text.specs.Written.{refutation_text};
 
 use clause_core::{Cnf, Literal};
 use refutation_check::{Log, Step};
-use sequence::NoMemory;
+use base_library::NoMemory;
 use tsl_text::{put_bytes, put_number};
 
 /// Appends the text of a formula, the line `lrat` and the text of a log. An `Err` says that memory ran out.

@@ -6,7 +6,7 @@ ghost use Rattle.tsl_terms.specs.Name.{is_name};
 ghost use Rattle.tsl_meaning.specs.Interpretation.{IsInterpretation, IsEqualityOf};
 
 use interp_core::Judge;
-use sequence::Sequence;
+use base_library::Sequence;
 use std::alloc::Global;
 use std::process::Abort;
 use std::test::Fail;

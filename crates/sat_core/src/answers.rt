@@ -2,7 +2,7 @@
 
 use clause_core::{Assignment, Clause};
 use refutation_check::Log;
-use sequence::Sequence;
+use base_library::Sequence;
 
 /// What a search came to.
 #[derive(Drop)]

@@ -17,7 +17,7 @@ use clause_learning::{
 };
 use refutation_check::Log;
 use sat_trail::Trail;
-use sequence::{NoMemory, Sequence};
+use base_library::{NoMemory, Sequence};
 use std::alloc::Global;
 
 /// A search over a formula, between its steps.

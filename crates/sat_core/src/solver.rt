@@ -8,7 +8,7 @@ ghost use Rattle.sat_core.specs.internal.Ends.{IsSearchAnswer};
 use crate::answers::Answer;
 use crate::search::Search;
 use clause_core::Cnf;
-use sequence::NoMemory;
+use base_library::NoMemory;
 use std::alloc::Global;
 
 /// Whether some assignment meets all clauses, where so many clauses may be learnt, the empty one not

@@ -2,7 +2,7 @@
 
 use clause_core::{Assignment, contains, is_tautology, meets};
 use logic_values::clause;
-use sequence::Sequence;
+use base_library::Sequence;
 use std::test::Fail;
 
 /// Clauses of two literals, and whether they are met where the variables 1 and 2 are false.

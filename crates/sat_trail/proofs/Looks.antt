@@ -3,7 +3,7 @@ use Rattle.std.proofs.Common.{◌≡◌, ℕ, ◌+◌, ◌<◌, true, false, Lis
 use Rattle.std.proofs.Common.{arith, inl, inr, MatchOption, Contains}
 use Rattle.std.proofs.lemmas.Option.{slice_get-get_or, get_or_from_slice_get}
 use Rattle.std.proofs.lemmas.Bool.{true≢false, cases_lt, cases_Bool}
-use Rattle.sequence.proofs.Places.{contains_at, slice_get_one}
+use Rattle.base_library.proofs.Places.{contains_at, slice_get_one}
 use Rattle.clause_core.specs.Literals.{Lit, negation, same, has}
 use Rattle.clause_core.specs.Clauses.{IsIncreasing}
 use Rattle.clause_core.proofs.Sets.{same_is, same_from, Contains_from_has, has_from_Contains}

@@ -3,7 +3,7 @@ use Rattle.std.proofs.Common.{◌≡◌, ℕ, ◌+◌, ◌<◌, ◌⊎◌, true,
 use Rattle.std.proofs.Common.{arith, inl, inr}
 use Rattle.std.proofs.lemmas.Option.{slice_get_within, same_Some, none-some, get_or_from_slice_get}
 use Rattle.std.proofs.lemmas.Bool.{false≢true, cases_lt, cases_eq}
-use Rattle.sequence.proofs.Places.{contains_at}
+use Rattle.base_library.proofs.Places.{contains_at}
 use Rattle.clause_core.specs.Literals.{Lit, negation, same, has, code_of}
 use Rattle.clause_core.proofs.Sets.{code_one, has_from_Contains, same_from, AllByRecursion-has}
 use Rattle.sat_trail.specs.declared.watches.Watch.{Watch}

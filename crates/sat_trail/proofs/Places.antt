@@ -7,7 +7,7 @@ use Rattle.std.proofs.lemmas.Bool.{eq-eqb, ne_eqb, false_from_ne_true, cond-true
 use Rattle.std.proofs.lemmas.Option.{none-some, same_Some, slice_get_within, get_or_from_slice_get}
 use Rattle.std.proofs.lemmas.List.{length-take-le, length-set, length-map}
 use Rattle.std.proofs.lemmas.Map.Steps.{length-le_from_distinct_below}
-use Rattle.sequence.proofs.Places.{split_at, slice_get-behind, slice_get_one, slice_get_set, slice_get_set_same}
+use Rattle.base_library.proofs.Places.{split_at, slice_get-behind, slice_get_one, slice_get_set, slice_get_set_same}
 use Rattle.sat_trail.specs.internal.Tables.{IsPlaceTable, AreTruths}
 use Rattle.clause_core.specs.Literals.{Lit, negation, same, has, code_of}
 use Rattle.clause_core.proofs.Sets.{same_is, same_from, code_one, code_within}

@@ -5,7 +5,7 @@ use Rattle.std.proofs.lemmas.Option.{slice_get_within}
 use Rattle.std.proofs.lemmas.List.{take-append-le, take_all, take_at, take-take, length_push}
 use Rattle.std.proofs.lemmas.List.Elements.{All-push, All-contains}
 use Rattle.std.proofs.lemmas.Bool.{cases_lt, false_from_ne_true}
-use Rattle.sequence.proofs.Places.{take_next, slice_get_grown, slice_get_push, slice_get-take, slice_get_some, contains_at}
+use Rattle.base_library.proofs.Places.{take_next, slice_get_grown, slice_get_push, slice_get-take, slice_get_some, contains_at}
 use Rattle.clause_core.specs.Literals.{Lit, has, negation}
 use Rattle.clause_core.specs.Clauses.{IsOver, has_pair}
 use Rattle.clause_core.proofs.Sets.{Contains_from_has, negation_differs}

@@ -5,7 +5,7 @@ use Rattle.std.specs.Prelude.{Result, Ok, Err, OnOk, OnErr}
 use Rattle.std.proofs.lemmas.Option.{slice_get_within, same_Some, none-some}
 use Rattle.std.proofs.lemmas.List.{length_push, length-append}
 use Rattle.std.proofs.lemmas.Bool.{true≢false, false≢true, cases_Bool, le-leb, leb-true}
-use Rattle.sequence.proofs.Places.{slice_get-front, slice_get_grown, slice_get_push, slice_get-take, slice_get_some}
+use Rattle.base_library.proofs.Places.{slice_get-front, slice_get_grown, slice_get_push, slice_get-take, slice_get_some}
 use Rattle.clause_core.specs.Literals.{Lit, negation, has, code_of}
 use Rattle.clause_core.specs.Propagation.{not_false, IsQuiet}
 use Rattle.clause_core.proofs.Sets.{code_within}

@@ -11,7 +11,7 @@ use Rattle.std.proofs.lemmas.List.{take_all, take-take}
 use Rattle.std.proofs.lemmas.List.Elements.{All-push, All-nil, All-append, All-contains, All-from_recursion}
 use Rattle.std.proofs.lemmas.Bool.{or_cases, or_left, or_right, true≢false, false≢true, cases_lt, cases_Bool, le-leb, lt-leb, cond-true}
 use Rattle.std.proofs.lemmas.Bool.{cond-false}
-use Rattle.sequence.proofs.Places.{slice_get-behind, slice_get_some, contains_at, last_split}
+use Rattle.base_library.proofs.Places.{slice_get-behind, slice_get_some, contains_at, last_split}
 use Rattle.sat_trail.specs.declared.stack.Stack.TheInside.{Inside}
 use Rattle.sat_trail.specs.internal.Tables.{IsPlaceTable, AreTruths}
 use Rattle.clause_core.specs.Literals.{Lit, negation, same, has, code_of}

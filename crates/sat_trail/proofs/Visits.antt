@@ -5,7 +5,7 @@ use Rattle.std.specs.Prelude.{nat_lt, option_map, is_some, Result, Ok, Err, OnOk
 use Rattle.std.proofs.lemmas.Option.{slice_get_within, same_Some, none-some, slice_get-get_or, get_or_from_slice_get}
 use Rattle.std.proofs.lemmas.Bool.{true≢false, cases_lt, ltb-false}
 use Rattle.std.proofs.lemmas.Result.{on_ok_weaker}
-use Rattle.sequence.proofs.Places.{slice_get_some, slice_get_one, slice_get_grown}
+use Rattle.base_library.proofs.Places.{slice_get_some, slice_get_one, slice_get_grown}
 use Rattle.clause_core.specs.Literals.{Lit, negation, has, code_of}
 use Rattle.clause_core.proofs.Sets.{negation-negation}
 use Rattle.sat_trail.specs.declared.entries.Entry.{Entry}

@@ -4,7 +4,7 @@ use Rattle.std.proofs.Common.{slice_get, get_or, sym, ap, ◌∙◌, subst, refl
 use Rattle.std.proofs.lemmas.Option.{slice_get_within, same_Some, none-some, slice_get-get_or}
 use Rattle.std.proofs.lemmas.List.{length_push, length-set}
 use Rattle.std.proofs.lemmas.Bool.{false≢true, cases_lt, cases_eq}
-use Rattle.sequence.proofs.Places.{slice_get_grown, slice_get_push, slice_get-behind, slice_get_some}
+use Rattle.base_library.proofs.Places.{slice_get_grown, slice_get_push, slice_get-behind, slice_get_some}
 use Rattle.clause_core.specs.Literals.{Lit, negation, has, code_of}
 use Rattle.sat_trail.specs.declared.entries.Entry.{Entry}
 use Rattle.sat_trail.specs.declared.watches.Pair.{Pair}

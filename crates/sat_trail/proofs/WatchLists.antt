@@ -4,7 +4,7 @@ use Rattle.std.proofs.Common.{inr}
 use Rattle.std.proofs.lemmas.Option.{same_Some, slice_get_past}
 use Rattle.std.proofs.lemmas.List.{length_push}
 use Rattle.std.proofs.lemmas.Bool.{cases_lt, cases_eq}
-use Rattle.sequence.proofs.Places.{slice_get-front, slice_get-behind, slice_get_grown, slice_get_push, slice_get_some, slice_get_set, slice_get_set_same}
+use Rattle.base_library.proofs.Places.{slice_get-front, slice_get-behind, slice_get_grown, slice_get_push, slice_get_some, slice_get_set, slice_get_set_same}
 use Rattle.clause_core.specs.Literals.{Lit, has}
 use Rattle.sat_trail.specs.declared.watches.Watch.{Watch}
 use Rattle.sat_trail.specs.declared.watches.Pair.{Pair}

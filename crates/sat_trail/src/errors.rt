@@ -1,6 +1,6 @@
 //! Why there is no trail of a formula.
 
-use sequence::NoMemory;
+use base_library::NoMemory;
 use std::alloc::AllocFailed;
 use thiserror::Error;
 

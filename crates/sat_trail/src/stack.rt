@@ -10,7 +10,7 @@ ghost use Rattle.sat_trail.specs.internal.Tables.{MayLearn};
 use crate::entries::Entry;
 use crate::trail_clauses::TrailClauses;
 use clause_core::{Clause, Cnf, Literal};
-use sequence::NoMemory;
+use base_library::NoMemory;
 use std::alloc::Global;
 use std::marker::Model;
 

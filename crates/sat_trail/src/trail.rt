@@ -10,7 +10,7 @@ use crate::errors::TrailError;
 use crate::stack::Stack;
 use crate::watches::Watches;
 use clause_core::{Clause, Cnf, Literal};
-use sequence::NoMemory;
+use base_library::NoMemory;
 use std::alloc::Global;
 use std::marker::Model;
 

@@ -4,7 +4,7 @@ ghost use Rattle.std.specs.Prelude.{◌≡◌, ◌+◌, ◌<◌, ◌^◌, ◌++�
 ghost use Rattle.clause_core.specs.Clauses.{IsIncreasing};
 
 use clause_core::{Clause, ClauseList, Literal};
-use sequence::NoMemory;
+use base_library::NoMemory;
 use std::marker::Model;
 
 /// The clauses of a formula, which are borrowed, and behind them the learnt ones. A contract sees them as

@@ -16,7 +16,7 @@ ghost use Rattle.sat_trail.specs.internal.Watching.{IsVisiting, Visits, IsUnitBy
 
 use crate::stack::Stack;
 use clause_core::{ClauseList, Literal};
-use sequence::NoMemory;
+use base_library::NoMemory;
 use std::alloc::Global;
 use std::marker::Model;
 

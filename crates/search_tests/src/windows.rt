@@ -11,7 +11,7 @@ use branch_finder::{BranchError, find_window};
 use letter_space::Space;
 use logic_values::space_of_spec;
 use machines::Environment;
-use sequence::{NoMemory, Sequence};
+use base_library::{NoMemory, Sequence};
 use spec_values::spec_of;
 use std::alloc::Global;
 use std::fmt::Write;

@@ -1,7 +1,7 @@
 -- How the answers are written that are no program: that no controller of some size has an annotation, and that the budget
 -- of a search was spent. These formats are the project's own.
 use Rattle.std.specs.Prelude.{ℕ, List, ◌++◌, map, filter, codes, decimal, ⊤}
-use Rattle.sequence.specs.Numbers.{numbers_from}
+use Rattle.base_library.specs.Numbers.{numbers_from}
 use Rattle.tsl_text.specs.Written.{text_of_lines}
 use Rattle.tsl_terms.specs.Name.{Name}
 use Rattle.ltl_formula.specs.Cubes.{has_bit}

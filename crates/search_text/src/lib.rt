@@ -27,7 +27,7 @@ use letter_space::Space;
 use ltl_formula::Cube;
 use machines::{Environment, Round, Side};
 use refutation_text::{put_clause, put_literal};
-use sequence::NoMemory;
+use base_library::NoMemory;
 use std::alloc::Global;
 use tsl_terms::Names;
 use tsl_text::{put_bytes, put_number};

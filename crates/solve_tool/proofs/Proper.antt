@@ -7,7 +7,7 @@ use Rattle.std.proofs.lemmas.Option.{none-some}
 use Rattle.std.proofs.lemmas.List.{append_assoc}
 use Rattle.std.proofs.lemmas.Bool.{lt-ltb, ltb-true, and_parts, and_from, false_from_ne_true, false≢true}
 use Rattle.std.proofs.lemmas.List.Elements.{All-nil, All-cons}
-use Rattle.sequence.proofs.Passes.{filter_within}
+use Rattle.base_library.proofs.Passes.{filter_within}
 use Rattle.clause_core.specs.Literals.{Lit, negation}
 use Rattle.clause_core.specs.Clauses.{AreUnsatisfiable, has_pair, is_true, meets, meets_all}
 use Rattle.clause_core.proofs.Sets.{HasPair, pair_from, any_from_has}

@@ -9,12 +9,12 @@ use Rattle.cnf_reader.specs.declared.reader.CnfReader.{CnfReader}
 use Rattle.cnf_reader.specs.Pieces.{HasRead}
 use Rattle.cnf_reader.specs.CnfText.{CnfAnswer, is_cnf, form_at, too_many_variables, too_many_clauses, cnf_answer}
 use Rattle.refutation_check.specs.declared.limits.TheConstants.{MOST_VARIABLES, MOST_CLAUSES}
-use Rattle.tool_ends.specs.declared.status.Status.{Status}
-use Rattle.tool_ends.specs.declared.status.Status.TheVariants.{Done as Satisfiable, No as Unsatisfiable, Spent as Unknown}
-use Rattle.tool_ends.specs.declared.reply.Reply.{Reply}
-use Rattle.tool_ends.specs.Statuses.{is_answer}
-use Rattle.tool_ends.proofs.Ending.{answer_told}
-use Rattle.tool_ends.proofs.Replying.{status_of, text_of, comes_of_bytes, some_byte}
+use Rattle.tool_io.specs.declared.status.Status.{Status}
+use Rattle.tool_io.specs.declared.status.Status.TheVariants.{Done as Satisfiable, No as Unsatisfiable, Spent as Unknown}
+use Rattle.tool_io.specs.declared.reply.Reply.{Reply}
+use Rattle.tool_io.specs.Statuses.{is_answer}
+use Rattle.tool_io.proofs.Ending.{answer_told}
+use Rattle.tool_io.proofs.Replying.{status_of, text_of, comes_of_bytes, some_byte}
 use Rattle.solve_tool.specs.declared.refusal.Refusal.{Refusal}
 use Rattle.solve_tool.specs.declared.refusal.Refusal.TheVariants.{OtherWords, Unread, MalformedAt, TooManyBytes}
 use Rattle.solve_tool.specs.declared.refusal.Refusal.TheVariants.{TooManyVariables, TooManyClauses}

@@ -10,8 +10,8 @@ use Rattle.refutation_text.specs.Parted.{SpellsRefutation}
 use Rattle.refutation_text.specs.Written.{refutation_text, IsClauseOver}
 use Rattle.refutation_text.proofs.Parted.{refutation_spelled}
 use Rattle.sat_core.specs.Answers.{AreSatisfying, AreRefuting}
-use Rattle.tool_ends.specs.declared.status.Status.{Status}
-use Rattle.tool_ends.specs.declared.reply.Reply.{Reply}
+use Rattle.tool_io.specs.declared.status.Status.{Status}
+use Rattle.tool_io.specs.declared.reply.Reply.{Reply}
 use Rattle.solve_tool.specs.declared.request.Request.{Request}
 use Rattle.solve_tool.specs.Outcome.{proper_clauses, IsRightReply}
 use Rattle.solve_tool.specs.Values.{satisfiable_text}

@@ -1,9 +1,9 @@
 -- How a run ends: its status, whether the source failed, and what stands in the sinks.
 use Rattle.std.specs.Prelude.{ℕ, List}
 use Rattle.tsl_io.specs.Effects.{Effect}
-use Rattle.tool_ends.specs.declared.status.Status.{Status}
-use Rattle.tool_ends.specs.declared.reply.Reply.{Reply}
-use Rattle.tool_ends.specs.Ends.{IsReplyOf, EndsIn, HandedOn}
+use Rattle.tool_io.specs.declared.status.Status.{Status}
+use Rattle.tool_io.specs.declared.reply.Reply.{Reply}
+use Rattle.tool_io.specs.Ends.{IsReplyOf, EndsIn, HandedOn}
 use Rattle.solve_tool.specs.Outcome.{SolverOutcome}
 
 -- The reply is an outcome on the bytes of the source: on those that it tells, where it tells some, and on some bytes

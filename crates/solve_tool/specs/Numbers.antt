@@ -1,9 +1,9 @@
 -- The numbers of statuses: an assignment meets all clauses, none does, and nothing is known.
 use Rattle.std.specs.Prelude.{ℕ, Bool}
-use Rattle.tool_ends.specs.declared.status.Status.{Status}
-use Rattle.tool_ends.specs.declared.status.Status.TheVariants.{Done as Satisfiable, No as Unsatisfiable, Spent as Unknown}
-use Rattle.tool_ends.specs.declared.status.Status.TheVariants.{Usage, Reading, Large, ReadFault, WriteFault, Memory}
-use Rattle.tool_ends.specs.Statuses.{is_answer}
+use Rattle.tool_io.specs.declared.status.Status.{Status}
+use Rattle.tool_io.specs.declared.status.Status.TheVariants.{Done as Satisfiable, No as Unsatisfiable, Spent as Unknown}
+use Rattle.tool_io.specs.declared.status.Status.TheVariants.{Usage, Reading, Large, ReadFault, WriteFault, Memory}
+use Rattle.tool_io.specs.Statuses.{is_answer}
 
 abbrev pub exit_number : Status → ℕ
 exit_number Satisfiable = 10

@@ -6,10 +6,10 @@ use Rattle.refutation_check.specs.declared.limits.TheConstants.{MOST_VARIABLES, 
 use Rattle.cnf_reader.specs.CnfText.{CnfAnswer, is_cnf, form_at, too_many_variables, too_many_clauses, cnf_answer}
 use Rattle.refutation_text.specs.Parted.{SpellsRefutation}
 use Rattle.sat_core.specs.Answers.{AreSatisfying, IsWholeTrace}
-use Rattle.tool_ends.specs.declared.status.Status.{Status}
-use Rattle.tool_ends.specs.declared.status.Status.TheVariants.{Done as Satisfiable, No as Unsatisfiable, Spent as Unknown}
+use Rattle.tool_io.specs.declared.status.Status.{Status}
+use Rattle.tool_io.specs.declared.status.Status.TheVariants.{Done as Satisfiable, No as Unsatisfiable, Spent as Unknown}
 use Rattle.solve_tool.specs.declared.refusal.Refusal.TheVariants.{OtherWords, Unread, MalformedAt, TooManyBytes, TooManyVariables, TooManyClauses}
-use Rattle.tool_ends.specs.declared.reply.Reply.{Reply}
+use Rattle.tool_io.specs.declared.reply.Reply.{Reply}
 use Rattle.solve_tool.specs.declared.request.Request.{Request}
 use Rattle.solve_tool.specs.declared.request.TheConstants.{MOST_BYTES}
 use Rattle.solve_tool.specs.Requests.{request_of}

@@ -4,7 +4,7 @@ use Rattle.clause_core.specs.Literals.{Lit}
 use Rattle.cnf_reader.specs.CnfText.{is_cnf, cnf_answer}
 use Rattle.tsl_io.specs.Told.{with_added}
 use Rattle.tsl_io.specs.Effects.{Effect, ContentsAre}
-use Rattle.tool_ends.specs.declared.status.Status.{Status}
+use Rattle.tool_io.specs.declared.status.Status.{Status}
 use Rattle.solve_tool.specs.declared.request.Request.{Request}
 use Rattle.solve_tool.specs.Requests.{request_of}
 use Rattle.solve_tool.specs.Outcome.{IsRightReply}

@@ -1,10 +1,10 @@
 -- What a run says: its status, and one text.
 use Rattle.std.specs.Prelude.{ℕ, List, ◌++◌, codes, decimal}
-use Rattle.tool_ends.specs.declared.status.Status.{Status}
-use Rattle.tool_ends.specs.declared.status.Status.TheVariants.{Usage, Reading, Large, ReadFault}
+use Rattle.tool_io.specs.declared.status.Status.{Status}
+use Rattle.tool_io.specs.declared.status.Status.TheVariants.{Usage, Reading, Large, ReadFault}
 use Rattle.solve_tool.specs.declared.refusal.Refusal.{Refusal}
 use Rattle.solve_tool.specs.declared.refusal.Refusal.TheVariants.{OtherWords, Unread, MalformedAt, TooManyBytes, TooManyVariables, TooManyClauses}
-use Rattle.tool_ends.specs.declared.reply.Reply.{Reply}
+use Rattle.tool_io.specs.declared.reply.Reply.{Reply}
 
 -- the status of a refusal
 abbrev pub refusal_status : Refusal → Status

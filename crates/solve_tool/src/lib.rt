@@ -4,7 +4,7 @@
 //! the field do. Its contract is the promise of the whole program. Its words, in the order to read
 //! them:
 //!
-//! 1. `Status` (`tool_ends`): nine ways to end. `Done` says that an assignment meets all clauses, `No` that none
+//! 1. `Status` (`tool_io`): nine ways to end. `Done` says that an assignment meets all clauses, `No` that none
 //!    does, and `Spent` that the budget is spent; the text of these goes to the first sink. `exit_number` gives
 //!    them the numbers 10, 20 and 0 (`specs/Numbers.antt`, which calls them `Satisfiable`, `Unsatisfiable` and
 //!    `Unknown`).
@@ -18,7 +18,7 @@
 //!    nothing is known, the budget was spent on clauses that are a trace.
 //! 4. `SolverOutcome` (`specs/Outcome.antt`): what the words and the bytes of the source may lead to,
 //!    refusals and failures included.
-//! 5. `SolverEnds` (`specs/Ends.antt`): the three ways in which a run ends, which are `EndsIn` of `tool_ends`.
+//! 5. `SolverEnds` (`specs/Ends.antt`): the three ways in which a run ends, which are `EndsIn` of `tool_io`.
 //!
 //! A clause with a literal and its negation is met by each assignment. Such clauses are left out
 //! before solving, so the formula that is written before a log is the one without them.
@@ -34,5 +34,5 @@ mod values;
 
 pub use laws::assignments_are_told;
 pub use status::exit_number;
-pub use tool_ends::Status;
+pub use tool_io::Status;
 pub use top::solve;

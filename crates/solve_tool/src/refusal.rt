@@ -3,9 +3,9 @@
 ghost use Rattle.std.specs.Prelude.{◌≡◌, ◌++◌, codes, decimal, IfOk};
 ghost use Rattle.solve_tool.specs.Replies.{refusal_reply, refusal_status, refusal_words};
 
-use sequence::NoMemory;
+use base_library::NoMemory;
 use std::alloc::Global;
-use tool_ends::{Reply, Status};
+use tool_io::{Reply, Status};
 use tsl_text::{put_bytes, put_number};
 
 /// Why there is no answer.

@@ -19,9 +19,9 @@ use cnf_reader::{CnfError, CnfReader};
 use refutation_check::{Log, MOST_CLAUSES, MOST_VARIABLES};
 use refutation_text::put_refutation;
 use sat_core::{Answer, solve};
-use sequence::NoMemory;
+use base_library::NoMemory;
 use std::alloc::Global;
-use tool_ends::{Reply, Status};
+use tool_io::{Reply, Status};
 
 /// What is replied to the text that was read.
 pub(crate) fn reply_to_read(

@@ -3,7 +3,7 @@
 ghost use Rattle.std.specs.Prelude.{◌≡◌};
 ghost use Rattle.solve_tool.specs.Numbers.{exit_number};
 
-use tool_ends::Status;
+use tool_io::Status;
 
 /// The number that a process ends with: 10, 20 and 0 for the answers, and 2 to 8 otherwise.
 pub fn exit_number(status: Status) -> u8

@@ -11,9 +11,9 @@ use crate::refusal::Refusal;
 use crate::request::{MOST_BYTES, request_of};
 use crate::solver::reply_to_read;
 use cnf_reader::CnfReader;
-use sequence::NoMemory;
+use base_library::NoMemory;
 use std::alloc::Global;
-use tool_ends::{Reply, Status, tell};
+use tool_io::{Reply, Status, tell};
 use tsl_io::{ReadError, Sink, Source, read_into};
 
 /// Runs the solver on the words after the program's name.

@@ -6,7 +6,7 @@ ghost use Rattle.solve_tool.specs.Values.{line_break, satisfiable_text};
 
 use clause_core::Literal;
 use refutation_text::put_literal;
-use sequence::NoMemory;
+use base_library::NoMemory;
 use std::alloc::Global;
 use tsl_text::put_bytes;
 

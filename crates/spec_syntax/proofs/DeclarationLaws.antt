@@ -3,8 +3,8 @@ use Rattle.std.proofs.Common.{◌≡◌, ℕ, ◌+◌, ◌≤◌, List, [], ◌�
 use Rattle.std.proofs.lemmas.List.{append-nil}
 use Rattle.std.specs.Prelude.{flat_map}
 use Rattle.tsl_text.specs.declared.TokenKind.TheVariants.{Equals, Semicolon, CloseBrace}
-use Rattle.token_readers.proofs.Then.{before_any}
-use Rattle.token_readers.proofs.Whole.{one_value, one_front}
+use Rattle.reader_combinators.proofs.Then.{before_any}
+use Rattle.reader_combinators.proofs.Whole.{one_value, one_front}
 use Rattle.spec_syntax.specs.Syntax.{Terminal, free, word, mark, FormulaSyntax, SectionSyntax, Definition, Declaration, the_section}
 use Rattle.spec_syntax.specs.Syntax.{the_definition, sections_among}
 use Rattle.spec_syntax.specs.Grammar.{AreItems, nothing, last_item, item, assume}

@@ -2,16 +2,16 @@
 use Rattle.std.proofs.Common.{◌≡◌, ℕ, suc, Bool, true, false, List, [], ◌∷◌, ◌++◌, map, refl, ap, sym, ◌∙◌, append_assoc, arith}
 use Rattle.std.specs.Prelude.{Some, None, Ok, codes}
 use Rattle.tsl_text.specs.declared.TokenKind.TheVariants.{Equals, Semicolon}
-use Rattle.token_readers.specs.Readers.{found_or_wrong, push}
-use Rattle.token_readers.specs.Exact.{Grammar, Begins, Exact}
-use Rattle.token_readers.proofs.Runs.{exact_map, exact_as}
-use Rattle.token_readers.proofs.Then.{Any, before_any, IsThen, exact_then, lift_then, IsClosed, lift_closed, closed_exact}
-use Rattle.token_readers.proofs.Terminals.{Turn, by_first, end_as, turn_of, turn_alone, turn_takes, turn_as}
-use Rattle.token_readers.proofs.Iterates.{Shrinks, step_shrinks}
-use Rattle.token_readers.proofs.Whole.{reads_all}
-use Rattle.token_readers.proofs.WholeTexts.{ends_members, whole_derives}
-use Rattle.token_readers.proofs.Taken.{Never}
-use Rattle.token_readers.proofs.Lists.{AreAll, none, some, Member, stepping, members_exact, each_member}
+use Rattle.reader_combinators.specs.Readers.{found_or_wrong, push}
+use Rattle.reader_combinators.specs.Exact.{Grammar, Begins, Exact}
+use Rattle.reader_combinators.proofs.Runs.{exact_map, exact_as}
+use Rattle.reader_combinators.proofs.Then.{Any, before_any, IsThen, exact_then, lift_then, IsClosed, lift_closed, closed_exact}
+use Rattle.reader_combinators.proofs.Terminals.{Turn, by_first, end_as, turn_of, turn_alone, turn_takes, turn_as}
+use Rattle.reader_combinators.proofs.Iterates.{Shrinks, step_shrinks}
+use Rattle.reader_combinators.proofs.Whole.{reads_all}
+use Rattle.reader_combinators.proofs.WholeTexts.{ends_members, whole_derives}
+use Rattle.reader_combinators.proofs.Taken.{Never}
+use Rattle.reader_combinators.proofs.Lists.{AreAll, none, some, Member, stepping, members_exact, each_member}
 use Rattle.spec_syntax.specs.declared.syntax.Closer.TheVariants.{Equals as EqualsAfter, Semicolon as SemicolonAfter}
 use Rattle.spec_syntax.specs.Syntax.{Terminal, free, mark, FormulaSyntax, bare, SectionSyntax, Definition, Declaration, the_section}
 use Rattle.spec_syntax.specs.Syntax.{the_definition}

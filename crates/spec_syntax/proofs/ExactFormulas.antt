@@ -3,13 +3,13 @@ use Rattle.std.proofs.Common.{◌≡◌, ℕ, zero, suc, ◌<◌, ◌≤◌, Boo
 use Rattle.std.proofs.lemmas.List.{append-nil}
 use Rattle.std.specs.Prelude.{Option, Some, None, codes}
 use Rattle.tsl_text.specs.declared.TokenKind.TheVariants.{And, Or, Arrow, BothArrow}
-use Rattle.token_readers.specs.Readers.{Reader, and_then, after}
-use Rattle.token_readers.specs.Exact.{Grammar, Before, Begins, Exact}
-use Rattle.token_readers.proofs.Runs.{map_same, exact_map, before_join, before_map, Same, exact_same}
-use Rattle.token_readers.proofs.Then.{IsThen, lift_then, exact_then, regroup, Tells}
-use Rattle.token_readers.proofs.Terminals.{Turn, by_first, end_as, turn_of, turn_takes, turn_as, IsAfter}
-use Rattle.token_readers.proofs.Levels.{Below, lift_up, IsTail, alone, with_right, tail_exact}
-use Rattle.token_readers.proofs.Lists.{AreAll, none, some, Member, marked_member, members_exact}
+use Rattle.reader_combinators.specs.Readers.{Reader, and_then, after}
+use Rattle.reader_combinators.specs.Exact.{Grammar, Before, Begins, Exact}
+use Rattle.reader_combinators.proofs.Runs.{map_same, exact_map, before_join, before_map, Same, exact_same}
+use Rattle.reader_combinators.proofs.Then.{IsThen, lift_then, exact_then, regroup, Tells}
+use Rattle.reader_combinators.proofs.Terminals.{Turn, by_first, end_as, turn_of, turn_takes, turn_as, IsAfter}
+use Rattle.reader_combinators.proofs.Levels.{Below, lift_up, IsTail, alone, with_right, tail_exact}
+use Rattle.reader_combinators.proofs.Lists.{AreAll, none, some, Member, marked_member, members_exact}
 use Rattle.spec_syntax.specs.declared.syntax.Word.TheVariants.{U, W, R}
 use Rattle.tsl_terms.specs.declared.operator.BinaryOperator.{BinaryOperator}
 use Rattle.tsl_terms.specs.declared.operator.ManyOperator.{ManyOperator}

@@ -2,13 +2,13 @@
 use Rattle.std.proofs.Common.{◌≡◌, ℕ, zero, suc, ◌<◌, Bool, true, false, List, [], ◌∷◌, refl, ap, sym, ◌∙◌, arith}
 use Rattle.std.specs.Prelude.{Option, Some, None, codes}
 use Rattle.tsl_text.specs.declared.TokenKind.TheVariants.{OpenRound, CloseRound, OpenSquare, CloseSquare, LeftArrow}
-use Rattle.token_readers.specs.Readers.{Reader, map_read, after, closed_by}
-use Rattle.token_readers.specs.Exact.{Grammar, Begins, Exact}
-use Rattle.token_readers.proofs.Runs.{map_same, exact_as}
-use Rattle.token_readers.proofs.Then.{Any, IsClosed, closed_exact}
-use Rattle.token_readers.proofs.Terminals.{Turn, by_first, end_wrong, turn_of, turn_wrong, turn_alone, turn_takes, turn_as, turn_goes_on}
-use Rattle.token_readers.proofs.Terminals.{IsAfter, after_exact}
-use Rattle.token_readers.proofs.Levels.{Below, Up, turn_below}
+use Rattle.reader_combinators.specs.Readers.{Reader, map_read, after, closed_by}
+use Rattle.reader_combinators.specs.Exact.{Grammar, Begins, Exact}
+use Rattle.reader_combinators.proofs.Runs.{map_same, exact_as}
+use Rattle.reader_combinators.proofs.Then.{Any, IsClosed, closed_exact}
+use Rattle.reader_combinators.proofs.Terminals.{Turn, by_first, end_wrong, turn_of, turn_wrong, turn_alone, turn_takes, turn_as, turn_goes_on}
+use Rattle.reader_combinators.proofs.Terminals.{IsAfter, after_exact}
+use Rattle.reader_combinators.proofs.Levels.{Below, Up, turn_below}
 use Rattle.spec_syntax.specs.declared.syntax.Word.TheVariants.{True, False}
 use Rattle.tsl_terms.specs.declared.operator.UnaryOperator.{UnaryOperator}
 use Rattle.spec_syntax.specs.declared.syntax.Closer.{Closer}

@@ -3,16 +3,16 @@ use Rattle.std.proofs.Common.{◌≡◌, ℕ, suc, ◌<◌, ◌+◌, true, List,
 use Rattle.std.proofs.lemmas.List.{append-nil}
 use Rattle.std.specs.Prelude.{None, Ok}
 use Rattle.tsl_text.specs.declared.TokenKind.TheVariants.{OpenBrace, CloseBrace, Semicolon}
-use Rattle.token_readers.specs.Readers.{Reader, form_at, closed_by, push, found_or_wrong}
-use Rattle.token_readers.specs.Exact.{Grammar, Begins, Exact}
-use Rattle.token_readers.proofs.Runs.{map_same, exact_map, exact_as}
-use Rattle.token_readers.proofs.Then.{Any, IsClosed, closed_exact}
-use Rattle.token_readers.proofs.Terminals.{Turn, by_first, end_wrong, turn_of, turn_wrong, turn_alone, turn_takes, turn_as, turn_goes_on}
-use Rattle.token_readers.proofs.Iterates.{Shrinks, Steps, stop, more, At, stays, goes, Stepping, step_shrinks, iterate_exact}
-use Rattle.token_readers.proofs.Whole.{reads_all, one_value, lifted}
-use Rattle.token_readers.proofs.WholeTexts.{ends_members, whole_derives}
-use Rattle.token_readers.proofs.Taken.{Never}
-use Rattle.token_readers.proofs.Lists.{AreAll, none, some, Member, stepping, members_exact, each_member}
+use Rattle.reader_combinators.specs.Readers.{Reader, form_at, closed_by, push, found_or_wrong}
+use Rattle.reader_combinators.specs.Exact.{Grammar, Begins, Exact}
+use Rattle.reader_combinators.proofs.Runs.{map_same, exact_map, exact_as}
+use Rattle.reader_combinators.proofs.Then.{Any, IsClosed, closed_exact}
+use Rattle.reader_combinators.proofs.Terminals.{Turn, by_first, end_wrong, turn_of, turn_wrong, turn_alone, turn_takes, turn_as, turn_goes_on}
+use Rattle.reader_combinators.proofs.Iterates.{Shrinks, Steps, stop, more, At, stays, goes, Stepping, step_shrinks, iterate_exact}
+use Rattle.reader_combinators.proofs.Whole.{reads_all, one_value, lifted}
+use Rattle.reader_combinators.proofs.WholeTexts.{ends_members, whole_derives}
+use Rattle.reader_combinators.proofs.Taken.{Never}
+use Rattle.reader_combinators.proofs.Lists.{AreAll, none, some, Member, stepping, members_exact, each_member}
 use Rattle.spec_syntax.specs.declared.syntax.Word.TheVariants.{Assume, Guarantee, Always, Initially}
 use Rattle.spec_syntax.specs.declared.syntax.Part.{Part}
 use Rattle.spec_syntax.specs.declared.syntax.Part.TheVariants.{AssumeFirst, AssumeAlways, GuaranteeFirst, GuaranteeAlways}

@@ -4,15 +4,15 @@ use Rattle.std.proofs.lemmas.List.{append-nil}
 use Rattle.std.specs.Prelude.{Option, Some, None, codes}
 use Rattle.tsl_text.specs.declared.TokenKind.TheVariants.{OpenRound, CloseRound, CloseSquare, CloseBrace, And, Or, Arrow, BothArrow, Equals}
 use Rattle.tsl_text.specs.declared.TokenKind.TheVariants.{Semicolon}
-use Rattle.token_readers.specs.Readers.{Reader, closed_by}
-use Rattle.token_readers.specs.Exact.{Grammar, Begins, Exact}
-use Rattle.token_readers.proofs.Runs.{exact_map, exact_as}
-use Rattle.token_readers.proofs.Then.{Any, Tells, IsClosed, lift_closed, closed_exact}
-use Rattle.token_readers.proofs.Terminals.{Turn, by_first, end_wrong, end_as, turn_of, turn_wrong, turn_deep, turn_alone, turn_takes}
-use Rattle.token_readers.proofs.Terminals.{turn_as}
-use Rattle.token_readers.proofs.Levels.{Below, Up, lift_up, exact_up, turn_below}
-use Rattle.token_readers.proofs.Iterates.{Steps, stop, more, At, stays, goes, Stepping, iterate_exact}
-use Rattle.token_readers.proofs.Lists.{AreAll, none, some}
+use Rattle.reader_combinators.specs.Readers.{Reader, closed_by}
+use Rattle.reader_combinators.specs.Exact.{Grammar, Begins, Exact}
+use Rattle.reader_combinators.proofs.Runs.{exact_map, exact_as}
+use Rattle.reader_combinators.proofs.Then.{Any, Tells, IsClosed, lift_closed, closed_exact}
+use Rattle.reader_combinators.proofs.Terminals.{Turn, by_first, end_wrong, end_as, turn_of, turn_wrong, turn_deep, turn_alone, turn_takes}
+use Rattle.reader_combinators.proofs.Terminals.{turn_as}
+use Rattle.reader_combinators.proofs.Levels.{Below, Up, lift_up, exact_up, turn_below}
+use Rattle.reader_combinators.proofs.Iterates.{Steps, stop, more, At, stays, goes, Stepping, iterate_exact}
+use Rattle.reader_combinators.proofs.Lists.{AreAll, none, some}
 use Rattle.spec_syntax.specs.declared.syntax.Word.TheVariants.{U, W, R}
 use Rattle.spec_syntax.specs.Syntax.{Terminal, free, word, mark, TermSyntax, alone, applied, grouped_term, no_terms}
 use Rattle.spec_syntax.specs.Grammar.{IsTerm, signal, constant, application, brackets, AreArguments, one_argument, more_arguments}

@@ -12,7 +12,7 @@ use Rattle.spec_syntax.specs.declared.syntax.Part.TheVariants.{AssumeAlways, Gua
 use Rattle.spec_syntax.specs.Syntax.{Terminal, free, word, mark, terminal_of, alone, applied, grouped_term, no_terms, more_terms}
 use Rattle.spec_syntax.specs.Syntax.{FormulaSyntax, bare, tested, grouped, under, between, joined, no_formulas, more_formulas}
 use Rattle.spec_syntax.specs.Syntax.{SectionSyntax}
-use Rattle.token_readers.specs.Readers.{form, deep, Answer, closing, iterate_most, iterate}
+use Rattle.reader_combinators.specs.Readers.{form, deep, Answer, closing, iterate_most, iterate}
 use Rattle.spec_syntax.specs.Reading.{opened, argument, after_name, term_with, update_with, atom_with, prefix_from, prefix_with}
 use Rattle.spec_syntax.specs.Reading.{further_from}
 use Rattle.spec_syntax.specs.Reading.{further, chain_after, and_with, or_after, arrow_from, arrow_after, imp_after, iff_after, right_with}

@@ -1,6 +1,6 @@
 -- What derives with some levels left derives with more: it is read so, and what is read derives.
 use Rattle.std.proofs.Common.{ℕ, ◌≤◌, List}
-use Rattle.token_readers.proofs.Whole.{lifted}
+use Rattle.reader_combinators.proofs.Whole.{lifted}
 use Rattle.spec_syntax.specs.Syntax.{Terminal, FormulaSyntax, SectionSyntax}
 use Rattle.spec_syntax.specs.Grammar.{IsFormula, IsSection, AreSections}
 use Rattle.spec_syntax.specs.Reading.{lower}

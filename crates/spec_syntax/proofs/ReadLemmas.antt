@@ -4,7 +4,7 @@ use Rattle.std.proofs.lemmas.Result.{err_from_is_err_and}
 use Rattle.std.specs.Prelude.{Some, None, Result}
 use Rattle.std.specs.Borrow.{Bor}
 use Rattle.std.specs.Result.{IsErrAnd}
-use Rattle.token_readers.specs.Readers.{Answer, Reader, map_read}
+use Rattle.reader_combinators.specs.Readers.{Answer, Reader, map_read}
 use Rattle.spec_syntax.specs.declared.fault.ReadFault.{ReadFault}
 use Rattle.spec_syntax.specs.declared.fault.ReadFault.TheVariants.{Form, Deep, NoMemory}
 use Rattle.spec_syntax.specs.declared.terminal.Terminal.{Terminal as LentTerminal}

@@ -4,10 +4,10 @@ use Rattle.std.proofs.lemmas.List.{map-append, length-map}
 use Rattle.std.specs.Prelude.{true, false, Option, Some, None, is_some, Ok}
 use Rattle.tsl_text.specs.declared.TokenKind.TheVariants.{OpenRound, CloseBrace}
 use Rattle.spec_syntax.specs.declared.trees.ReadFormula.{ReadFormula}
-use Rattle.token_readers.specs.Readers.{form, deep, Answer, iterate, push, push_read, map_read, found_or_wrong}
-use Rattle.token_readers.proofs.Iterates.{Shrinks, step_shrinks, no_step, next_step, wrong_step}
-use Rattle.token_readers.proofs.Lists.{stepping as list_stepping}
-use Rattle.token_readers.proofs.MemberLoops.{viewed_more, members_end}
+use Rattle.reader_combinators.specs.Readers.{form, deep, Answer, iterate, push, push_read, map_read, found_or_wrong}
+use Rattle.reader_combinators.proofs.Iterates.{Shrinks, step_shrinks, no_step, next_step, wrong_step}
+use Rattle.reader_combinators.proofs.Lists.{stepping as list_stepping}
+use Rattle.reader_combinators.proofs.MemberLoops.{viewed_more, members_end}
 use Rattle.tsl_terms.specs.declared.operator.ManyOperator.{ManyOperator}
 use Rattle.tsl_terms.specs.declared.operator.ManyOperator.TheVariants.{Conjunction, Disjunction}
 use Rattle.spec_syntax.specs.declared.fault.ReadFault.{ReadFault}

@@ -1,7 +1,7 @@
 -- Lists of terms and of formulas that are built member by member.
 use Rattle.std.proofs.Common.{◌≡◌, List, [], ◌∷◌, refl, ap}
-use Rattle.sequence.proofs.Lists.{with_front}
-pub use Rattle.sequence.proofs.Lists.{with_front_push}
+use Rattle.base_library.proofs.Lists.{with_front}
+pub use Rattle.base_library.proofs.Lists.{with_front_push}
 use Rattle.spec_syntax.specs.Syntax.{TermSyntax, no_terms, more_terms, listed_terms, FormulaSyntax, no_formulas, more_formulas}
 use Rattle.spec_syntax.specs.Syntax.{listed_formulas}
 

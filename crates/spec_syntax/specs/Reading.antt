@@ -16,8 +16,8 @@ use Rattle.tsl_text.specs.declared.TokenKind.TheVariants.{
   LeftArrow,
   Equals,
 }
-use Rattle.token_readers.specs.Readers.{Answer, Reader, form_at, deep_at, closed_by, and_then, map_read, iterate, members, below}
-use Rattle.token_readers.specs.Readers.{found_or_wrong}
+use Rattle.reader_combinators.specs.Readers.{Answer, Reader, form_at, deep_at, closed_by, and_then, map_read, iterate, members, below}
+use Rattle.reader_combinators.specs.Readers.{found_or_wrong}
 use Rattle.spec_syntax.specs.declared.syntax.Word.TheVariants.{Assume, Guarantee, Always, Initially, True, False}
 use Rattle.tsl_terms.specs.declared.operator.UnaryOperator.{UnaryOperator}
 use Rattle.tsl_terms.specs.declared.operator.BinaryOperator.{BinaryOperator}

@@ -22,7 +22,7 @@ use Rattle.spec_syntax.specs.Syntax.{Terminal, free, word, mark, TermSyntax, alo
 use Rattle.spec_syntax.specs.Syntax.{more_terms, FormulaSyntax, truth, falsehood, bare, tested, updated, grouped, under, between, joined}
 use Rattle.spec_syntax.specs.Syntax.{FormulasSyntax, no_formulas, more_formulas, SectionSyntax}
 use Rattle.spec_syntax.specs.Syntax.{Definition, Declaration, the_section, the_definition}
-use Rattle.token_readers.specs.Readers.{Answer, Reader, form, deep}
+use Rattle.reader_combinators.specs.Readers.{Answer, Reader, form, deep}
 
 abbrev pub terminal_view : LentTerminal → Terminal
 terminal_view (Free text) = free text.now

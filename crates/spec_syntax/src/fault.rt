@@ -2,7 +2,7 @@
 
 ghost use Rattle.std.specs.Prelude.{◌≡◌};
 
-use sequence::NoMemory;
+use base_library::NoMemory;
 use std::alloc::AllocFailed;
 
 /// The first fault, by how many terminals are left from the faulty one on, or want of memory.

@@ -1,7 +1,7 @@
 //! Reading formulas.
 
 ghost use Rattle.std.specs.Prelude.{◌≡◌, map, option_map, IfOk};
-ghost use Rattle.token_readers.specs.Readers.{below, members};
+ghost use Rattle.reader_combinators.specs.Readers.{below, members};
 ghost use Rattle.spec_syntax.specs.Syntax.{between, join};
 ghost use Rattle.spec_syntax.specs.internal.Forms.{reader_of, form_with};
 ghost use Rattle.spec_syntax.specs.Reading.{lower, bracketed_formula, atom_named, update_with};
@@ -19,7 +19,7 @@ use crate::syntax::{ArrowKind, Closer, Word};
 use crate::terminal::{Rest, Terminal};
 use crate::terms::{Answer, after_name, close, level_below, term_with};
 use crate::trees::{ReadFormula, ReadFormulas, ReadTerm, ReadTerms};
-use sequence::NoMemory;
+use base_library::NoMemory;
 use std::alloc::Global;
 use tsl_terms::{BinaryOperator, ManyOperator, UnaryOperator};
 use tsl_text::TokenKind;

@@ -2,7 +2,7 @@
 
 ghost use Rattle.std.specs.Prelude.{◌≡◌, ℕ, suc, ◌+◌, ◌≤◌, List, [], ◌∷◌, ◌++◌, length, map, flat_map};
 ghost use Rattle.std.specs.Prelude.{Ok, Err};
-ghost use Rattle.token_readers.specs.Readers.{form, deep};
+ghost use Rattle.reader_combinators.specs.Readers.{form, deep};
 ghost use Rattle.spec_syntax.specs.Syntax.{Terminal, FormulaSyntax, SectionSyntax, Declaration};
 ghost use Rattle.spec_syntax.specs.Syntax.{the_section, sections_among};
 ghost use Rattle.spec_syntax.specs.Grammar.{IsFormula, AreSections, AreDeclarations};

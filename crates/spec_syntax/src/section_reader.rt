@@ -11,7 +11,7 @@ ghost use Rattle.spec_syntax.specs.SyntaxView.{terminals_view, section_syntax};
 ghost use Rattle.spec_syntax.specs.SyntaxView.{formula_syntax, equation_syntax};
 ghost use Rattle.spec_syntax.specs.SyntaxView.{declaration_syntax};
 ghost use Rattle.spec_syntax.specs.SyntaxView.{declarations_syntax};
-ghost use Rattle.token_readers.specs.Readers.{members, map_read};
+ghost use Rattle.reader_combinators.specs.Readers.{members, map_read};
 ghost use Rattle.spec_syntax.specs.internal.InnerView.{listed_syntax, name_text, names_syntax};
 ghost use Rattle.spec_syntax.specs.SyntaxView.{sections_syntax};
 ghost use Rattle.spec_syntax.specs.SyntaxView.{Reads};

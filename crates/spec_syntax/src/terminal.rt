@@ -8,7 +8,7 @@ ghost use Rattle.spec_syntax.specs.SyntaxView.{terminal_view, terminals_view};
 ghost use Rattle.spec_syntax.specs.internal.InnerView.{letter_operator};
 
 use crate::syntax::Word;
-use sequence::NoMemory;
+use base_library::NoMemory;
 use std::alloc::Global;
 use tsl_text::{Token, TokenKind};
 

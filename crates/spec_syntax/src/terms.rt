@@ -2,7 +2,7 @@
 
 ghost use Rattle.std.specs.Prelude.{◌≡◌, ◌<◌, length, map, option_map, None, Some, IfOk, IfErr};
 ghost use Rattle.std.specs.Prelude.{Option, Ok, IfSome, IfNone};
-ghost use Rattle.token_readers.specs.Readers.{closing, below};
+ghost use Rattle.reader_combinators.specs.Readers.{closing, below};
 ghost use Rattle.spec_syntax.specs.declared.fault.ReadFault.TheVariants.{Deep};
 ghost use Rattle.spec_syntax.specs.Reading.{lower, above, closes, bracketed_term, begins_term};
 ghost use Rattle.spec_syntax.specs.Syntax.{TermSyntax};
@@ -19,7 +19,7 @@ use crate::fault::ReadFault;
 use crate::syntax::Closer;
 use crate::terminal::{Rest, Terminal};
 use crate::trees::{ReadTerm, ReadTerms};
-use sequence::NoMemory;
+use base_library::NoMemory;
 use std::alloc::Global;
 use tsl_text::TokenKind;
 
@@ -79,7 +79,7 @@ fn closes(closer: Closer, terminal: &Terminal) -> bool
 }
 
 /// What closes a form.
-#[tactic(auto, unfolding(token_readers::specs::Readers::closing))]
+#[tactic(auto, unfolding(reader_combinators::specs::Readers::closing))]
 pub(crate) fn close<'a, 'b>(closer: Closer, xs: &'b [Terminal<'a>]) -> Answer<'a, 'b, ()>
     ensures { Reads (λ _. tt {0}) (closing (closes closer)) xs.now result }
 {

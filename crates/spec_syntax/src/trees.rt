@@ -6,7 +6,7 @@ ghost use Rattle.spec_syntax.specs.SyntaxView.{term_syntax, terms_syntax, formul
 ghost use Rattle.spec_syntax.specs.SyntaxView.{formulas_syntax};
 
 use crate::syntax::Part;
-use sequence::NoMemory;
+use base_library::NoMemory;
 use std::alloc::Global;
 use tsl_terms::{BinaryOperator, ManyOperator, UnaryOperator};
 

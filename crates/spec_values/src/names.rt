@@ -2,7 +2,7 @@
 
 ghost use Rattle.std.specs.Prelude.{◌≡◌, ◌∷◌, [], codes, IfOk};
 
-use sequence::NoMemory;
+use base_library::NoMemory;
 use std::alloc::Global;
 use std::test::Fail;
 use tsl_terms::{NameKind, Names};

@@ -4,7 +4,7 @@ ghost use Rattle.std.specs.Prelude.{◌≡◌, ◌∷◌, [], Some, IfOk};
 ghost use Rattle.tsl_terms.specs.TermTree.{signal, no_terms, more_terms, probe_tree};
 ghost use Rattle.tsl_terms.specs.WindowTree.{window_tree};
 
-use sequence::{NoMemory, Sequence};
+use base_library::{NoMemory, Sequence};
 use std::alloc::Global;
 use tsl_terms::{Listed, Probe, Term, TermList, Window};
 

@@ -7,14 +7,14 @@ use Rattle.std.specs.List.{find, list_all, AllByRecursion}
 use Rattle.std.proofs.lemmas.Bool.{and_parts}
 use Rattle.std.proofs.lemmas.Option.{slice_get-map}
 use Rattle.std.proofs.lemmas.List.Elements.{All-from_recursion, recursion_from_All}
-use Rattle.sequence.specs.Numbers.{is_among}
-use Rattle.sequence.specs.Options.{passes}
-use Rattle.sequence.proofs.Each.{each_both}
-use Rattle.sequence.proofs.Finds.{each_fails}
-use Rattle.sequence.proofs.Lists.{map_map}
-use Rattle.sequence.proofs.Options.{some_mapped, none_mapped}
-use Rattle.sequence.proofs.Numbers.{among_place}
-use Rattle.sequence.proofs.Passes.{passes_at, list_any-map}
+use Rattle.base_library.specs.Numbers.{is_among}
+use Rattle.base_library.specs.Options.{passes}
+use Rattle.base_library.proofs.Each.{each_both}
+use Rattle.base_library.proofs.Finds.{each_fails}
+use Rattle.base_library.proofs.Lists.{map_map}
+use Rattle.base_library.proofs.Options.{some_mapped, none_mapped}
+use Rattle.base_library.proofs.Numbers.{among_place}
+use Rattle.base_library.proofs.Passes.{passes_at, list_any-map}
 use Rattle.tsl_terms.specs.declared.names.NameKind.TheVariants.{Signal}
 use Rattle.tsl_terms.specs.Name.{Name, is_name, same_kind}
 use Rattle.table_syntax.specs.Syntax.{TextToken, InputsSyntax}

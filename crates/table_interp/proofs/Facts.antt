@@ -10,16 +10,16 @@ use Rattle.std.proofs.lemmas.List.{length-map}
 use Rattle.std.proofs.Math.Nat.{pow-zero}
 use Rattle.std.proofs.lemmas.Bool.{not-false}
 use Rattle.std.proofs.lemmas.List.Elements.{All-from_recursion, recursion_from_All}
-use Rattle.sequence.proofs.Finds.{each_fails}
-use Rattle.sequence.proofs.Gathered.{length-all_there}
-use Rattle.sequence.proofs.Numbers.{numbers_at}
-use Rattle.sequence.proofs.Places.{slice_get_some}
-use Rattle.sequence.proofs.Options.{none_is, some_mapped}
+use Rattle.base_library.proofs.Finds.{each_fails}
+use Rattle.base_library.proofs.Gathered.{length-all_there}
+use Rattle.base_library.proofs.Numbers.{numbers_at}
+use Rattle.base_library.proofs.Places.{slice_get_some}
+use Rattle.base_library.proofs.Options.{none_is, some_mapped}
 use Rattle.table_interp.proofs.Growing.{gathered_are, gathered_each}
-use Rattle.sequence.specs.Numbers.{numbers_from}
-use Rattle.sequence.specs.Options.{all_there, passes}
-use Rattle.sequence.proofs.Each.{each_right, each_at, each_weaker, each_both, each_unmapped}
-use Rattle.sequence.proofs.Passes.{each_from_list_all}
+use Rattle.base_library.specs.Numbers.{numbers_from}
+use Rattle.base_library.specs.Options.{all_there, passes}
+use Rattle.base_library.proofs.Each.{each_right, each_at, each_weaker, each_both, each_unmapped}
+use Rattle.base_library.proofs.Passes.{each_from_list_all}
 use Rattle.tsl_terms.specs.declared.names.NameKind.{NameKind}
 use Rattle.tsl_terms.specs.declared.names.NameKind.TheVariants.{Signal, Function, Predicate}
 use Rattle.tsl_terms.specs.Name.{Name, is_name, same_kind}

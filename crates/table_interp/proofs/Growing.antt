@@ -2,9 +2,9 @@
 use Rattle.std.proofs.Common.{◌≡◌, ◌∙◌, ℕ, ◌+◌, ◌<◌, List, [], ◌∷◌, ◌++◌, length, map, take, get_or, Option, Some, None, sym, ap}
 use Rattle.std.proofs.lemmas.List.{take_more, map-append}
 use Rattle.std.specs.List.{AllByRecursion}
-use Rattle.sequence.specs.Options.{all_there}
-use Rattle.sequence.proofs.Gathered.{gather_more}
-use Rattle.sequence.proofs.Options.{some_mapped}
+use Rattle.base_library.specs.Options.{all_there}
+use Rattle.base_library.proofs.Gathered.{gather_more}
+use Rattle.base_library.proofs.Options.{some_mapped}
 use Rattle.std.proofs.lemmas.Option.{none-some, same_Some}
 
 -- where all are there, the list is theirs

@@ -5,7 +5,7 @@ use Rattle.std.specs.Prelude.{nat_eq, slice_get, option_copied, option_and_then,
 use Rattle.std.specs.Map.{lookup}
 use Rattle.std.proofs.lemmas.Bool.{eqb-true, eq-eqb}
 use Rattle.std.proofs.Math.Nat.{mul-le-mul_right, pow-le-pow_right, pow-suc, add-mul}
-use Rattle.sequence.proofs.Booleans.{same_tests}
+use Rattle.base_library.proofs.Booleans.{same_tests}
 use Rattle.tsl_terms.specs.Value.{beside}
 use Rattle.tsl_meaning.specs.Interpretation.{Interpretation, are_values, place_of_arguments, entry_of, entry_at}
 

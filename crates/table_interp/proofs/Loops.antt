@@ -4,8 +4,8 @@ use Rattle.std.specs.List.{AllByRecursion}
 use Rattle.std.proofs.lemmas.List.{length-map}
 use Rattle.std.proofs.lemmas.Option.{none-some, same_Some}
 use Rattle.std.proofs.lemmas.List.Elements.{All-from_recursion}
-use Rattle.sequence.proofs.Gathered.{length-all_there}
-use Rattle.sequence.proofs.Each.{each_left, each_right, each_from_places}
+use Rattle.base_library.proofs.Gathered.{length-all_there}
+use Rattle.base_library.proofs.Each.{each_left, each_right, each_from_places}
 use Rattle.tsl_terms.specs.Name.{Name}
 use Rattle.tsl_terms.specs.Value.{beside}
 use Rattle.tsl_meaning.specs.Interpretation.{InputRows, IsRow, IsInputLoop}

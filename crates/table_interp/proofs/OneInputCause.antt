@@ -3,14 +3,14 @@ use Rattle.std.proofs.Common.{◌≡◌, ◌∙◌, ℕ, Bool, List, None, lengt
 use Rattle.std.specs.Prelude.{◌≢◌, option_and_then, slice_get, is_some}
 use Rattle.std.specs.List.{find}
 use Rattle.std.proofs.lemmas.Bool.{cases_lt, false≢true}
-use Rattle.sequence.proofs.Finds.{find_none_at}
+use Rattle.base_library.proofs.Finds.{find_none_at}
 use Rattle.tsl_terms.specs.Name.{Name}
 use Rattle.table_syntax.specs.Syntax.{TextToken, InputsSyntax}
 use Rattle.table_syntax.specs.Grammar.{IsInputs}
 use Rattle.table_syntax.specs.declared.forms.TextFault.TheVariants as fault
 use Rattle.table_syntax.proofs.Readings.{same_inputs}
 use Rattle.entry_names.specs.Needed.{number_for}
-use Rattle.sequence.proofs.Causes.{Causes, above, told_with, told, after, and_then}
+use Rattle.base_library.proofs.Causes.{Causes, above, told_with, told, after, and_then}
 use Rattle.entry_names.proofs.OneCause.{misread, misnamed}
 use Rattle.table_interp.specs.declared.TheConstants.{MOST_ROWS}
 use Rattle.table_interp.specs.declared.InputError.{InputError}

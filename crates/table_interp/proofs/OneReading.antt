@@ -1,8 +1,8 @@
 -- A text spells at most one interpretation, and at most one input loop.
 use Rattle.std.proofs.Common.{◌≡◌, ◌∙◌, ℕ, List, [], ◌∷◌, map, Option, Some, None, refl, sym, ap, subst}
-use Rattle.sequence.proofs.Lists.{map_taken_back}
-use Rattle.sequence.specs.Options.{all_there}
-use Rattle.sequence.proofs.Options.{one_value}
+use Rattle.base_library.proofs.Lists.{map_taken_back}
+use Rattle.base_library.specs.Options.{all_there}
+use Rattle.base_library.proofs.Options.{one_value}
 use Rattle.tsl_terms.specs.Name.{Name}
 use Rattle.tsl_meaning.specs.Interpretation.{Interpretation, InputRows}
 use Rattle.table_syntax.specs.Syntax.{TablesSyntax, InputsSyntax}

@@ -9,7 +9,7 @@ use Rattle.table_syntax.specs.declared.forms.TextFault.TheVariants as fault
 use Rattle.table_syntax.proofs.Readings.{same_tables}
 use Rattle.entry_names.specs.Needed.{needed}
 use Rattle.entry_names.specs.declared.locating.EntryFault.TheVariants as entry
-use Rattle.sequence.proofs.Causes.{Causes, found, above, told_with, told, after, and_then}
+use Rattle.base_library.proofs.Causes.{Causes, found, above, told_with, told, after, and_then}
 use Rattle.entry_names.proofs.OneCause.{misread}
 use Rattle.entry_names.proofs.OneFault.{misplaced}
 use Rattle.table_interp.specs.declared.TheConstants.{MOST_VALUES}

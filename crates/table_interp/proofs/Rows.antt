@@ -3,18 +3,18 @@ use Rattle.std.proofs.Common.{◌≡◌, ◌∙◌, ℕ, zero, suc, ◌+◌, ◌
 use Rattle.std.proofs.Common.{Vec, Some, None, refl, sym, ap, subst, arith, inl, inr}
 use Rattle.std.specs.Prelude.{slice_get, option_map, is_some, All, ◌⊎◌}
 use Rattle.std.proofs.lemmas.List.Elements.{All-from_recursion, recursion_from_All}
-use Rattle.sequence.proofs.Finds.{find_item_past, each_fails, find_neither}
-use Rattle.sequence.proofs.Options.{none_is}
+use Rattle.base_library.proofs.Finds.{find_item_past, each_fails, find_neither}
+use Rattle.base_library.proofs.Options.{none_is}
 use Rattle.tsl_terms.specs.Value.{beside}
-use Rattle.sequence.specs.Options.{all_there}
+use Rattle.base_library.specs.Options.{all_there}
 use Rattle.table_interp.specs.Inputs.{by_inputs, is_no_value}
 use Rattle.std.specs.List.{find, AllByRecursion}
 use Rattle.std.specs.declared.alloc.Global.{Global}
 use Rattle.std.proofs.lemmas.Bool.{cases_lt, eqb-true}
 use Rattle.std.proofs.lemmas.List.{length-map, map-append, take_more}
-use Rattle.sequence.proofs.Each.{each_at, each_weaker, each_left, each_right}
+use Rattle.base_library.proofs.Each.{each_at, each_weaker, each_left, each_right}
 use Rattle.std.proofs.lemmas.Option.{none-some, same_Some, slice_get-get_or, slice_get-map}
-use Rattle.sequence.proofs.Booleans.{eqb_self}
+use Rattle.base_library.proofs.Booleans.{eqb_self}
 use Rattle.entry_names.specs.Needed.{HasNoRepeat}
 use Rattle.table_interp.specs.Inputs.{IsFirstAt}
 use Rattle.table_syntax.specs.View.{numbers_view}

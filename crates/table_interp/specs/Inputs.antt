@@ -3,8 +3,8 @@
 use Rattle.std.specs.Prelude.{◌≡◌, ℕ, ◌==◌, ◌<◌, ◌≤◌, Bool, true, false, not, List, ◌++◌, length, map, nat_lt}
 use Rattle.std.specs.Prelude.{Option, Some, None, slice_get, is_some}
 use Rattle.std.specs.List.{find, list_any}
-use Rattle.sequence.specs.Numbers.{is_among}
-use Rattle.sequence.specs.Options.{all_there, passes}
+use Rattle.base_library.specs.Numbers.{is_among}
+use Rattle.base_library.specs.Options.{all_there, passes}
 use Rattle.tsl_text.specs.Division.{HasBadByte, HasOpenComment}
 use Rattle.tsl_terms.specs.Name.{Name}
 use Rattle.tsl_terms.specs.Value.{beside}

@@ -4,8 +4,8 @@ ghost use Rattle.std.specs.Prelude.{◌≡◌, ◌↔◌, ℕ, ◌<◌, ◌≤�
 ghost use Rattle.std.specs.Prelude.{IsSomeAnd};
 ghost use Rattle.std.specs.Option.{SomeIff};
 ghost use Rattle.std.specs.List.{find, list_all};
-ghost use Rattle.sequence.specs.Numbers.{IsDistinct, numbers_from};
-ghost use Rattle.sequence.specs.Options.{all_there};
+ghost use Rattle.base_library.specs.Numbers.{IsDistinct, numbers_from};
+ghost use Rattle.base_library.specs.Options.{all_there};
 ghost use Rattle.tsl_terms.specs.declared.names.NameKind.TheVariants.{Signal};
 ghost use Rattle.tsl_terms.specs.Name.{is_name};
 ghost use Rattle.tsl_terms.specs.Equality.{is_equality};
@@ -32,7 +32,7 @@ ghost use Rattle.table_interp.specs.internal.Located.{located_tables, IsLocated,
 use crate::tables::Tables;
 use crate::{MOST_ENTRIES, MOST_VALUES, TableError};
 use entry_names::{entry_for, entry_places, is_symbol_number, needed};
-use sequence::{NoMemory, Sequence};
+use base_library::{NoMemory, Sequence};
 use std::alloc::{AllocError, Global};
 use table_syntax::{Entry, TablesText};
 use tsl_terms::{NameKind, Names, equality_of};

@@ -3,8 +3,8 @@
 ghost use Rattle.std.specs.Prelude.{◌≡◌, ℕ, ◌<◌, ◌≤◌, ◌^◌, ◌++◌, Some, None, true, IsTrue, is_some, not, option_map, length, map, slice_get, All, IfOk, IfErr, IfSome, IfNone, IsSomeAnd};
 ghost use Rattle.std.specs.Prelude.{MatchOption};
 ghost use Rattle.std.specs.List.{find, list_all};
-ghost use Rattle.sequence.specs.Numbers.{IsDistinct};
-ghost use Rattle.sequence.specs.Options.{all_there};
+ghost use Rattle.base_library.specs.Numbers.{IsDistinct};
+ghost use Rattle.base_library.specs.Options.{all_there};
 ghost use Rattle.tsl_terms.specs.declared.names.NameKind.TheVariants.{Signal};
 ghost use Rattle.tsl_terms.specs.Name.{is_name};
 ghost use Rattle.tsl_meaning.specs.Interpretation.{rows_of};
@@ -28,7 +28,7 @@ ghost use Rattle.table_interp.specs.internal.Ordered.{columns_of, HavePlaces, Ar
 use crate::entries::first_from;
 use crate::{InputError, MOST_ROWS};
 use entry_names::{entry_places, place_of};
-use sequence::{NoMemory, Sequence};
+use base_library::{NoMemory, Sequence};
 use std::alloc::{AllocError, Global};
 use table_syntax::InputsText;
 use tsl_meaning::InputLoop;

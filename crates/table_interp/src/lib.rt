@@ -13,7 +13,7 @@
 
 ghost use Rattle.std.specs.Prelude.{◌≡◌, ◌-◌, ◌<◌, ◌^◌, length, IsTrue, IfOk, IfErr};
 ghost use Rattle.std.specs.List.{list_all};
-ghost use Rattle.sequence.specs.Numbers.{IsDistinct};
+ghost use Rattle.base_library.specs.Numbers.{IsDistinct};
 ghost use Rattle.tsl_terms.specs.declared.names.NameKind.TheVariants.{Signal};
 ghost use Rattle.tsl_terms.specs.Name.{is_name};
 ghost use Rattle.tsl_meaning.specs.Interpretation.{IsInterpretation, IsInputLoop, IsEqualityOf, rows_of};
@@ -23,7 +23,7 @@ ghost use Rattle.table_interp.specs.Inputs.{SpellsInputs, HasInputCause, IsRefus
 use entries::tables_from;
 use entry_names::EntryFault;
 use inputs::rows_from;
-use sequence::NoMemory;
+use base_library::NoMemory;
 use std::alloc::{AllocFailed, Global};
 use table_syntax::{TextFault, inputs_of, tables_of};
 use thiserror::Error;

@@ -1,13 +1,13 @@
 //! Interpretations by tables.
 
 ghost use Rattle.std.specs.Prelude.{◌≡◌, ◌^◌, ◌<◌, ◌≤◌, Some, IsSome, IsOk, IfOk, length, map, if◌then◌else◌};
-ghost use Rattle.sequence.specs.Numbers.{IsDistinct};
+ghost use Rattle.base_library.specs.Numbers.{IsDistinct};
 ghost use Rattle.tsl_meaning.specs.Interpretation.{are_values, place_of_arguments, entry_at, same_two};
 
 use crate::MOST_VALUES;
 use indexmap::IndexMap;
 use interp_core::{Algebra, Judge};
-use sequence::{NoMemory, Sequence};
+use base_library::{NoMemory, Sequence};
 use std::alloc::Global;
 use std::marker::Model;
 

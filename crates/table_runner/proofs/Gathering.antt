@@ -3,10 +3,10 @@ use Rattle.std.proofs.Common.{◌≡◌, ◌∙◌, ℕ, ◌+◌, ◌<◌, ◌�
 use Rattle.std.proofs.Common.{subst}
 use Rattle.std.specs.Prelude.{option_map, IsSome}
 use Rattle.std.proofs.lemmas.List.{append-nil, drop_all}
-use Rattle.sequence.specs.Options.{all_there}
-use Rattle.sequence.proofs.Options.{map_there, some_mapped}
-use Rattle.sequence.proofs.Lists.{left_at}
-use Rattle.sequence.proofs.Gathered.{copied_more}
+use Rattle.base_library.specs.Options.{all_there}
+use Rattle.base_library.proofs.Options.{map_there, some_mapped}
+use Rattle.base_library.proofs.Lists.{left_at}
+use Rattle.base_library.proofs.Gathered.{copied_more}
 
 -- these values, and then those of a list, if each of those is there
 abbrev pub and_then_all : {S : Type 0} → List S → List (Option S) → Option (List S)

@@ -2,7 +2,7 @@
 use Rattle.std.proofs.Common.{◌≡◌, ◌∙◌, ℕ, ◌+◌, ◌≤◌, inl, inr, List, [], ◌∷◌, ◌++◌, length, map, take, drop, Some, slice_get, refl, sym, ap}
 use Rattle.std.proofs.Common.{subst, arith}
 use Rattle.std.proofs.lemmas.List.{map-append, length-append, length-map, length-drop}
-use Rattle.sequence.proofs.Places.{slice_get_push}
+use Rattle.base_library.proofs.Places.{slice_get_push}
 use Rattle.tsl_terms.specs.declared.term.Term.{Term}
 use Rattle.tsl_terms.specs.TermTree.{term_tree}
 use Rattle.tsl_terms.specs.Value.{Meanings}

@@ -8,11 +8,11 @@ use Rattle.std.proofs.lemmas.List.{length-append, map-append, take-map, length-m
 use Rattle.std.proofs.lemmas.Option.{same_Some, slice_get_within, slice_get-map}
 use Rattle.std.proofs.lemmas.Simd.{map-map}
 use Rattle.std.proofs.lemmas.Bool.Decides.{eqb_tells}
-use Rattle.sequence.specs.Options.{all_there}
-use Rattle.sequence.specs.Numbers.{IsDistinct}
-use Rattle.sequence.proofs.Options.{some_mapped, there_mapped, there_before}
-use Rattle.sequence.proofs.Places.{slice_get_grown}
-use Rattle.sequence.proofs.Gathered.{length-all_there}
+use Rattle.base_library.specs.Options.{all_there}
+use Rattle.base_library.specs.Numbers.{IsDistinct}
+use Rattle.base_library.proofs.Options.{some_mapped, there_mapped, there_before}
+use Rattle.base_library.proofs.Places.{slice_get_grown}
+use Rattle.base_library.proofs.Gathered.{length-all_there}
 use Rattle.tsl_terms.specs.declared.term.Term.{Term}
 use Rattle.tsl_terms.specs.TermTree.{TermTree, ProbeTree, term_tree}
 use Rattle.tsl_terms.specs.Value.{Meanings, value, truth, beside}

@@ -1,7 +1,7 @@
 //! What a program does at a step, and the values after it.
 
 ghost use Rattle.std.specs.Prelude.{◌≡◌, ◌++◌, Some, IsSome, IfOk, map, option_map, if◌then◌else◌};
-ghost use Rattle.sequence.specs.Options.{all_there};
+ghost use Rattle.base_library.specs.Options.{all_there};
 ghost use Rattle.tsl_terms.specs.TermTree.{term_tree};
 ghost use Rattle.tsl_terms.specs.Value.{value, truth};
 ghost use Rattle.program_tree.specs.ProgramView.{program_tree};
@@ -10,7 +10,7 @@ ghost use Rattle.interp_core.specs.LeafValue.{leaf_value};
 
 use interp_core::{Algebra, Judge, Leaves, push_value, test_term};
 use program_tree::{Node, Program};
-use sequence::NoMemory;
+use base_library::NoMemory;
 use std::alloc::Global;
 use tsl_terms::Term;
 

@@ -18,7 +18,7 @@ use crate::standing::{
 };
 use interp_core::Judge;
 use program_tree::Program;
-use sequence::NoMemory;
+use base_library::NoMemory;
 use std::alloc::Global;
 use tsl_meaning::{InputLoop, LoopRun};
 

@@ -1,6 +1,6 @@
 //! Why there is no closed run.
 
-use sequence::NoMemory;
+use base_library::NoMemory;
 use std::alloc::AllocFailed;
 use thiserror::Error;
 

@@ -14,7 +14,7 @@ use crate::acting::{action_in, copies};
 use crate::standing::{Standing, act, cells_of, first_standing, row_of};
 use interp_core::Judge;
 use program_tree::Program;
-use sequence::{NoMemory, Sequence};
+use base_library::{NoMemory, Sequence};
 use std::alloc::Global;
 use tsl_meaning::{InputLoop, Position};
 use tsl_terms::{Term, copy_term};

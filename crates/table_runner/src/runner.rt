@@ -8,7 +8,7 @@ ghost use Rattle.table_runner.specs.Standings.{shown, StandsAt};
 use crate::standing::{Standing, advance, cells_of, first_standing};
 use interp_core::Judge;
 use program_tree::Program;
-use sequence::NoMemory;
+use base_library::NoMemory;
 use std::alloc::Global;
 use tsl_meaning::InputLoop;
 

@@ -12,7 +12,7 @@ use crate::acting::{Action, action_in, copies, first_values, next_values};
 use crate::rows::{next_place, row_at};
 use interp_core::{Algebra, Judge, Leaves};
 use program_tree::Program;
-use sequence::{NoMemory, Sequence};
+use base_library::{NoMemory, Sequence};
 use std::alloc::Global;
 use tsl_meaning::InputLoop;
 

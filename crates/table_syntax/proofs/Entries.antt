@@ -3,13 +3,13 @@ use Rattle.std.proofs.Common.{◌≡◌, ℕ, suc, ◌≤◌, Bool, true, false,
 use Rattle.std.proofs.lemmas.List.{append-nil}
 use Rattle.std.specs.Prelude.{Option, Some, None, option_map, option_and_then, is_some, codes}
 use Rattle.tsl_terms.specs.declared.names.NameKind.{NameKind}
-use Rattle.token_readers.specs.Readers.{Answer, Reader, value_or_wrong, taking, and_then, map_read, members, at_end}
-use Rattle.token_readers.specs.Exact.{Grammar, Before, Begins, Exact}
-use Rattle.token_readers.proofs.Runs.{exact_as}
-use Rattle.token_readers.proofs.Then.{Any}
-use Rattle.token_readers.proofs.Terminals.{turn_of}
-use Rattle.token_readers.proofs.Taken.{HasExample, IsOne, taken_begins, taken_exact, IsEnd, Never, end_exact, end_begins}
-use Rattle.token_readers.proofs.Sequels.{
+use Rattle.reader_combinators.specs.Readers.{Answer, Reader, value_or_wrong, taking, and_then, map_read, members, at_end}
+use Rattle.reader_combinators.specs.Exact.{Grammar, Before, Begins, Exact}
+use Rattle.reader_combinators.proofs.Runs.{exact_as}
+use Rattle.reader_combinators.proofs.Then.{Any}
+use Rattle.reader_combinators.proofs.Terminals.{turn_of}
+use Rattle.reader_combinators.proofs.Taken.{HasExample, IsOne, taken_begins, taken_exact, IsEnd, Never, end_exact, end_begins}
+use Rattle.reader_combinators.proofs.Sequels.{
   IsMapped,
   mapped_exact,
   mapped_begins,
@@ -20,8 +20,8 @@ use Rattle.token_readers.proofs.Sequels.{
   nothing_follows,
   after_one,
 }
-use Rattle.token_readers.proofs.Lists.{AreAll, none, some, Member, members_exact}
-use Rattle.token_readers.proofs.WholeTexts.{Ends, ends_at_end, ends_map, ends_then}
+use Rattle.reader_combinators.proofs.Lists.{AreAll, none, some, Member, members_exact}
+use Rattle.reader_combinators.proofs.WholeTexts.{Ends, ends_at_end, ends_map, ends_then}
 use Rattle.table_syntax.specs.Syntax.{TextToken, is_name_token, is_word, is_numeral, number_at}
 use Rattle.table_syntax.specs.internal.Reading.{word_at, numeral_at, from_one, positive_at, kind_at, member_by, headed_text}
 use Rattle.table_syntax.proofs.Terminals.{word_is, word_taken, numeral_is, numeral_taken, from_one_is, from_one_taken, word_is_name, word_of_kind}

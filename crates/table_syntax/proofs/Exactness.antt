@@ -4,15 +4,15 @@ use Rattle.std.proofs.lemmas.List.{append-nil}
 use Rattle.std.specs.Prelude.{Option, Some, None, option_map, is_some, codes, if◌then◌else◌}
 use Rattle.tsl_terms.specs.declared.names.NameKind.{NameKind}
 use Rattle.tsl_terms.specs.declared.names.NameKind.TheVariants.{Signal, Function, Predicate}
-use Rattle.token_readers.specs.Readers.{value_or_wrong, taking, and_then, after, push}
-use Rattle.token_readers.specs.Exact.{Grammar, Before, Exact}
-use Rattle.token_readers.proofs.Runs.{exact_as}
-use Rattle.token_readers.proofs.Then.{Any}
-use Rattle.token_readers.proofs.Terminals.{turn_of, IsAfter}
-use Rattle.token_readers.proofs.Taken.{IsOne, taken_begins, taken_exact, IsEnd, Never}
-use Rattle.token_readers.proofs.Sequels.{IsMapped, Then, nothing_follows, after_one}
-use Rattle.token_readers.proofs.Iterates.{Shrinks, step_shrinks}
-use Rattle.token_readers.proofs.Lists.{AreAll, none, some, Member, stepping, marked_member}
+use Rattle.reader_combinators.specs.Readers.{value_or_wrong, taking, and_then, after, push}
+use Rattle.reader_combinators.specs.Exact.{Grammar, Before, Exact}
+use Rattle.reader_combinators.proofs.Runs.{exact_as}
+use Rattle.reader_combinators.proofs.Then.{Any}
+use Rattle.reader_combinators.proofs.Terminals.{turn_of, IsAfter}
+use Rattle.reader_combinators.proofs.Taken.{IsOne, taken_begins, taken_exact, IsEnd, Never}
+use Rattle.reader_combinators.proofs.Sequels.{IsMapped, Then, nothing_follows, after_one}
+use Rattle.reader_combinators.proofs.Iterates.{Shrinks, step_shrinks}
+use Rattle.reader_combinators.proofs.Lists.{AreAll, none, some, Member, stepping, marked_member}
 use Rattle.table_syntax.specs.Syntax.{TextToken, is_word, number_at, Entry, TablesSyntax, InputsSyntax}
 use Rattle.table_syntax.specs.Grammar.{
   AreNumbers,

@@ -4,13 +4,13 @@ use Rattle.std.proofs.Common.{subst, inl, inr, arith}
 use Rattle.std.proofs.lemmas.List.{map-append, append-nil, length-map, length-drop}
 use Rattle.std.proofs.lemmas.Option.{slice_get_past}
 use Rattle.std.specs.Prelude.{Option, Some, None, Ok, Err, slice_get, codes, MatchOption}
-use Rattle.sequence.proofs.Places.{slice_get_some, split_at}
+use Rattle.base_library.proofs.Places.{slice_get_some, split_at}
 use Rattle.tsl_text.specs.declared.Token.{Token}
 use Rattle.tsl_text.specs.Division.{AreTokens}
-use Rattle.token_readers.specs.Readers.{form, Reader, taking}
-use Rattle.token_readers.specs.Exact.{Exact}
-use Rattle.token_readers.proofs.Taken.{Never}
-use Rattle.token_readers.proofs.WholeTexts.{Ends, ends_at_end, ends_map, ends_then, read_derives, form_within, stops, begins_before, no_value}
+use Rattle.reader_combinators.specs.Readers.{form, Reader, taking}
+use Rattle.reader_combinators.specs.Exact.{Exact}
+use Rattle.reader_combinators.proofs.Taken.{Never}
+use Rattle.reader_combinators.proofs.WholeTexts.{Ends, ends_at_end, ends_map, ends_then, read_derives, form_within, stops, begins_before, no_value}
 use Rattle.table_syntax.specs.Syntax.{TextToken, text_token_at, text_tokens}
 use Rattle.table_syntax.specs.Forms.{IsRead, SomeTextBegins, HasWrongToken, HasFormFault}
 use Rattle.table_syntax.specs.declared.text_tokens.TextToken.{TextToken as LentToken}

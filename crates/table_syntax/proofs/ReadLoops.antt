@@ -1,9 +1,9 @@
 -- Loops that read members: what was read so far, and then what is read of the terminals that are left, is the whole.
 use Rattle.std.proofs.Common.{◌≡◌, ◌∙◌, List, [], ◌∷◌, ◌++◌, map, sym, ap}
 use Rattle.std.specs.Prelude.{Option, Some, None, Ok}
-use Rattle.token_readers.specs.Readers.{Answer, form, push, iterate}
-use Rattle.token_readers.proofs.Iterates.{Shrinks}
-use Rattle.token_readers.proofs.MemberLoops.{viewed_more, members_end, members_wrong}
+use Rattle.reader_combinators.specs.Readers.{Answer, form, push, iterate}
+use Rattle.reader_combinators.proofs.Iterates.{Shrinks}
+use Rattle.reader_combinators.proofs.MemberLoops.{viewed_more, members_end, members_wrong}
 use Rattle.table_syntax.specs.Syntax.{TextToken}
 use Rattle.table_syntax.specs.declared.reading.ReadFault.{ReadFault}
 use Rattle.table_syntax.specs.declared.reading.ReadFault.TheVariants.{Form, NoMemory}

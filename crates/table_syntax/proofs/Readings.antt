@@ -1,10 +1,10 @@
 -- A text derives from one thing by a grammar, and from nothing where it has a fault.
 use Rattle.std.proofs.Common.{length, ◌≡◌, ℕ, ◌<◌, ◌≤◌, List, subst, arith}
 use Rattle.tsl_text.proofs.OneAnswer.{one_list}
-use Rattle.token_readers.specs.Readers.{Reader}
-use Rattle.token_readers.specs.Exact.{Exact}
-use Rattle.token_readers.proofs.Whole.{one_value}
-use Rattle.token_readers.proofs.Taken.{Never}
+use Rattle.reader_combinators.specs.Readers.{Reader}
+use Rattle.reader_combinators.specs.Exact.{Exact}
+use Rattle.reader_combinators.proofs.Whole.{one_value}
+use Rattle.reader_combinators.proofs.Taken.{Never}
 use Rattle.table_syntax.specs.Syntax.{TextToken, text_tokens, TablesSyntax, WordsSyntax, InputsSyntax}
 use Rattle.table_syntax.specs.Grammar.{IsTables, tables, IsWords, words, IsInputs, inputs}
 use Rattle.table_syntax.specs.Forms.{IsRead}

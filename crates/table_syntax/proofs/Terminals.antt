@@ -8,8 +8,8 @@ use Rattle.tsl_text.specs.declared.TokenKind.TheVariants as kinds
 use Rattle.tsl_text.specs.Numbers.{number_in}
 use Rattle.std.specs.Str.{bytes_eq}
 use Rattle.std.proofs.lemmas.Bool.{and_parts}
-use Rattle.sequence.proofs.Bytes.{same_bytes}
-use Rattle.token_readers.proofs.Taken.{HasExample}
+use Rattle.base_library.proofs.Bytes.{same_bytes}
+use Rattle.reader_combinators.proofs.Taken.{HasExample}
 use Rattle.table_syntax.specs.Syntax.{is_name_kind, is_number_kind}
 use Rattle.table_syntax.specs.Syntax.{TextToken, is_name_token, is_symbol, is_word, is_numeral, number_at}
 use Rattle.table_syntax.specs.internal.Reading.{word_at, numeral_at, name_at, symbol_at, from_one, positive_at, kind_at}

@@ -7,14 +7,14 @@ use Rattle.std.proofs.lemmas.Bool.{and_parts}
 use Rattle.std.proofs.lemmas.Option.{none-some}
 use Rattle.tsl_terms.specs.declared.names.NameKind.{NameKind}
 use Rattle.tsl_terms.specs.declared.names.NameKind.TheVariants.{Signal, Function, Predicate}
-use Rattle.token_readers.specs.Readers.{taking, and_then, push}
-use Rattle.token_readers.specs.Exact.{Grammar, gives, Agrees, Exact}
-use Rattle.token_readers.proofs.Runs.{exact_as}
-use Rattle.token_readers.proofs.Then.{Any}
-use Rattle.token_readers.proofs.Taken.{HasExample, IsOne, Never}
-use Rattle.token_readers.proofs.Sequels.{IsMapped, Then, after_one}
-use Rattle.token_readers.proofs.Iterates.{Shrinks, step_shrinks}
-use Rattle.token_readers.proofs.Lists.{AreAll, none, some, Member, stepping}
+use Rattle.reader_combinators.specs.Readers.{taking, and_then, push}
+use Rattle.reader_combinators.specs.Exact.{Grammar, gives, Agrees, Exact}
+use Rattle.reader_combinators.proofs.Runs.{exact_as}
+use Rattle.reader_combinators.proofs.Then.{Any}
+use Rattle.reader_combinators.proofs.Taken.{HasExample, IsOne, Never}
+use Rattle.reader_combinators.proofs.Sequels.{IsMapped, Then, after_one}
+use Rattle.reader_combinators.proofs.Iterates.{Shrinks, step_shrinks}
+use Rattle.reader_combinators.proofs.Lists.{AreAll, none, some, Member, stepping}
 use Rattle.table_syntax.specs.declared.words.Operation.{Operation as WordOperation}
 use Rattle.table_syntax.specs.declared.words.Operation.TheVariants.{Add, Const}
 use Rattle.table_syntax.specs.declared.words.Test.TheVariants.{Less}

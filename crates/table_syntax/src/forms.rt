@@ -10,7 +10,7 @@ use crate::reading::{InputsText, ReadFault, TablesText, inputs_text, tables_text
 use crate::text_tokens::text_tokens;
 use crate::word_reading::words_text;
 use crate::words::WordsText;
-use sequence::NoMemory;
+use base_library::NoMemory;
 use std::alloc::Global;
 use tsl_text::{TextError, Token, tokens};
 

@@ -1,7 +1,7 @@
 //! Reading terminals by the grammars.
 
 ghost use Rattle.std.specs.Prelude.{◌≡◌, ◌≤◌, ◌<◌, length, map, Some, Ok, IsTrue, IfOk, IfErr, IfSome, IfNone};
-ghost use Rattle.token_readers.specs.Readers.{taking, at_end};
+ghost use Rattle.reader_combinators.specs.Readers.{taking, at_end};
 ghost use Rattle.table_syntax.specs.internal.Reading.{
   word_at,
   numeral_at,
@@ -38,7 +38,7 @@ ghost use Rattle.table_syntax.specs.internal.ReadFaults.{IsReadFaultOf};
 use crate::text_tokens::{
     Rest, TextToken, is_name_token, is_numeral, is_symbol, is_word, number_at,
 };
-use sequence::NoMemory;
+use base_library::NoMemory;
 use std::alloc::{AllocFailed, Global};
 use tsl_terms::NameKind;
 
@@ -106,7 +106,7 @@ pub struct InputsText<'a> {
 }
 
 /// The terminals after a name with these bytes.
-#[tactic(auto, unfolding(token_readers::specs::Readers::taking))]
+#[tactic(auto, unfolding(reader_combinators::specs::Readers::taking))]
 pub(crate) fn word<'a, 'b>(word: &[u8], xs: &'b [TextToken<'a>]) -> Answer<'a, 'b, ()>
     ensures ok { IfOk result (λ read. taking (word_at word.now) (text_tokens_view xs.now) ≡ Ok (tt, text_tokens_view read.1.now)) }
     ensures fault { IfErr result (IsReadFaultOf (taking (word_at word.now) (text_tokens_view xs.now))) }
@@ -125,7 +125,7 @@ pub(crate) fn word<'a, 'b>(word: &[u8], xs: &'b [TextToken<'a>]) -> Answer<'a, '
 }
 
 /// The terminals after a number with these digits.
-#[tactic(auto, unfolding(token_readers::specs::Readers::taking))]
+#[tactic(auto, unfolding(reader_combinators::specs::Readers::taking))]
 pub(crate) fn numeral<'a, 'b>(digits: &[u8], xs: &'b [TextToken<'a>]) -> Answer<'a, 'b, ()>
     ensures ok { IfOk result (λ read. taking (numeral_at digits.now) (text_tokens_view xs.now) ≡ Ok (tt, text_tokens_view read.1.now)) }
     ensures fault { IfErr result (IsReadFaultOf (taking (numeral_at digits.now) (text_tokens_view xs.now))) }
@@ -143,7 +143,7 @@ pub(crate) fn numeral<'a, 'b>(digits: &[u8], xs: &'b [TextToken<'a>]) -> Answer<
 }
 
 /// A name.
-#[tactic(auto, unfolding(token_readers::specs::Readers::taking))]
+#[tactic(auto, unfolding(reader_combinators::specs::Readers::taking))]
 pub(crate) fn name<'a, 'b>(xs: &'b [TextToken<'a>]) -> Answer<'a, 'b, TextToken<'a>>
     ensures ok { IfOk result (λ read. taking name_at (text_tokens_view xs.now) ≡ Ok (text_token_view read.0, text_tokens_view read.1.now)) }
     ensures fault { IfErr result (IsReadFaultOf (taking name_at (text_tokens_view xs.now))) }
@@ -162,7 +162,7 @@ pub(crate) fn name<'a, 'b>(xs: &'b [TextToken<'a>]) -> Answer<'a, 'b, TextToken<
 }
 
 /// A name or `?`.
-#[tactic(auto, unfolding(token_readers::specs::Readers::taking))]
+#[tactic(auto, unfolding(reader_combinators::specs::Readers::taking))]
 pub(crate) fn symbol<'a, 'b>(xs: &'b [TextToken<'a>]) -> Answer<'a, 'b, TextToken<'a>>
     ensures ok { IfOk result (λ read. taking symbol_at (text_tokens_view xs.now)
         ≡ Ok (text_token_view read.0, text_tokens_view read.1.now)) }
@@ -182,7 +182,7 @@ pub(crate) fn symbol<'a, 'b>(xs: &'b [TextToken<'a>]) -> Answer<'a, 'b, TextToke
 }
 
 /// A number of at most 18 digits.
-#[tactic(auto, unfolding(token_readers::specs::Readers::taking))]
+#[tactic(auto, unfolding(reader_combinators::specs::Readers::taking))]
 pub(crate) fn number<'a, 'b>(xs: &'b [TextToken<'a>]) -> Answer<'a, 'b, u64>
     ensures ok { IfOk result (λ read. taking number_at (text_tokens_view xs.now) ≡ Ok (read.0, text_tokens_view read.1.now)) }
     ensures fault { IfErr result (IsReadFaultOf (taking number_at (text_tokens_view xs.now))) }
@@ -208,7 +208,7 @@ fn positive_at(x: TextToken) -> Option<u64>
 }
 
 /// A number of at most 18 digits from 1 on.
-#[tactic(auto, unfolding(token_readers::specs::Readers::taking))]
+#[tactic(auto, unfolding(reader_combinators::specs::Readers::taking))]
 pub(crate) fn positive<'a, 'b>(xs: &'b [TextToken<'a>]) -> Answer<'a, 'b, u64>
     ensures ok { IfOk result (λ read. taking positive_at (text_tokens_view xs.now) ≡ Ok (read.0, text_tokens_view read.1.now)) }
     ensures fault { IfErr result (IsReadFaultOf (taking positive_at (text_tokens_view xs.now))) }
@@ -360,7 +360,7 @@ fn entries<'a, 'b>(alloc: Global, xs: &'b [TextToken<'a>]) -> Answer<'a, 'b, Vec
 }
 
 /// Nothing more.
-#[tactic(auto, unfolding(token_readers::specs::Readers::at_end))]
+#[tactic(auto, unfolding(reader_combinators::specs::Readers::at_end))]
 pub(crate) fn at_end<'a, 'b>(xs: &'b [TextToken<'a>]) -> Answer<'a, 'b, ()>
     ensures ok { IfOk result (λ read. at_end (text_tokens_view xs.now) ≡ Ok (tt, text_tokens_view read.1.now)) }
     ensures fault { IfErr result (IsReadFaultOf (at_end (text_tokens_view xs.now))) }

@@ -5,7 +5,7 @@ ghost use Rattle.tsl_text.specs.Division.{IsTokenOf};
 ghost use Rattle.table_syntax.specs.Syntax.{text_token_at, text_tokens, is_name_token, is_symbol, is_word, is_numeral, number_at};
 ghost use Rattle.table_syntax.specs.View.{text_token_view, text_tokens_view};
 
-use sequence::NoMemory;
+use base_library::NoMemory;
 use std::alloc::Global;
 use tsl_text::{Token, TokenKind, number_in};
 

@@ -2,7 +2,7 @@
 
 ghost use Rattle.std.specs.Prelude.{◌≡◌, ◌<◌, length, Some, Ok, IfOk, IfErr};
 ghost use Rattle.tsl_terms.specs.declared.names.NameKind.TheVariants.{Signal, Function, Predicate};
-ghost use Rattle.token_readers.specs.Readers.{taking};
+ghost use Rattle.reader_combinators.specs.Readers.{taking};
 ghost use Rattle.table_syntax.specs.Syntax.{operation_at, test_at};
 ghost use Rattle.table_syntax.specs.View.{text_token_view, text_tokens_view, word_entry_view, word_entries_view, words_view};
 ghost use Rattle.table_syntax.specs.internal.Reading.{operation_word_at, operation, word_entry_of_kind, word_entries, words_text};
@@ -81,7 +81,7 @@ fn operation_word_at(x: TextToken) -> Option<Option<Operation>>
 }
 
 /// What stands for an operation, at the front.
-#[tactic(auto, unfolding(token_readers::specs::Readers::taking))]
+#[tactic(auto, unfolding(reader_combinators::specs::Readers::taking))]
 fn operation_word<'a, 'b>(xs: &'b [TextToken<'a>]) -> Answer<'a, 'b, Option<Operation>>
     ensures ok { IfOk result (λ read. taking operation_word_at (text_tokens_view xs.now) ≡ Ok (read.0, text_tokens_view read.1.now)) }
     ensures fault { IfErr result (IsReadFaultOf (taking operation_word_at (text_tokens_view xs.now))) }
@@ -114,7 +114,7 @@ fn operation<'a, 'b>(xs: &'b [TextToken<'a>]) -> Answer<'a, 'b, Operation>
 }
 
 /// A test.
-#[tactic(auto, unfolding(token_readers::specs::Readers::taking))]
+#[tactic(auto, unfolding(reader_combinators::specs::Readers::taking))]
 fn test<'a, 'b>(xs: &'b [TextToken<'a>]) -> Answer<'a, 'b, Test>
     ensures ok { IfOk result (λ read. taking test_at (text_tokens_view xs.now) ≡ Ok (read.0, text_tokens_view read.1.now)) }
     ensures fault { IfErr result (IsReadFaultOf (taking test_at (text_tokens_view xs.now))) }

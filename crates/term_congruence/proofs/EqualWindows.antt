@@ -3,8 +3,8 @@
 use Rattle.std.proofs.Common.{◌≡◌, ◌∙◌, ℕ, Bool, true, ◌==◌, List, [], ◌∷◌, ◌++◌, Option, Some, sym, arith}
 use Rattle.std.specs.Prelude.{option_and_then}
 use Rattle.std.specs.List.{AllByRecursion}
-use Rattle.sequence.specs.Numbers.{is_among, IsDistinct}
-use Rattle.sequence.proofs.Each.{each_flat_map, each_weaker}
+use Rattle.base_library.specs.Numbers.{is_among, IsDistinct}
+use Rattle.base_library.proofs.Each.{each_flat_map, each_weaker}
 use Rattle.loop_shape.specs.LoopShape.{LoopShape, IsPosition, steps_on}
 use Rattle.tsl_terms.specs.TermTree.{TermTree, TermTrees, no_terms, more_terms, ProbeTree, count_of_terms}
 use Rattle.tsl_terms.specs.WindowTree.{ListedTree, EquatedTree}

@@ -3,7 +3,7 @@ use Rattle.std.proofs.Common.{◌≡◌, ◌≢◌, ◌∙◌, ℕ, ◌+◌, ◌
 use Rattle.std.proofs.Common.{Some, slice_get, get_or, refl, sym, ap, subst, arith, inl, inr}
 use Rattle.std.proofs.lemmas.Option.{slice_get_within, none-some, same_Some, slice_get_read}
 use Rattle.std.proofs.lemmas.List.{length_push}
-use Rattle.sequence.proofs.Places.{slice_get_push, slice_get_grown, slice_get-behind, slice_get_one}
+use Rattle.base_library.proofs.Places.{slice_get_push, slice_get_grown, slice_get-behind, slice_get_one}
 use Rattle.std.specs.Prelude.{option_map}
 use Rattle.std.proofs.lemmas.Option.{slice_get-map}
 use Rattle.term_congruence.specs.declared.shapes.Shape.{Shape}

@@ -6,13 +6,13 @@ use Rattle.std.proofs.lemmas.Bool.Decides.{eqb_tells}
 use Rattle.std.proofs.lemmas.Bool.{cases_lt}
 use Rattle.std.proofs.lemmas.List.Sums.{sum_by-cons}
 use Rattle.std.proofs.lemmas.Option.{slice_get_within}
-use Rattle.sequence.proofs.Lists.{heads, tails}
-use Rattle.sequence.proofs.Each.{each_at, each_joined, each_left, each_between}
+use Rattle.base_library.proofs.Lists.{heads, tails}
+use Rattle.base_library.proofs.Each.{each_at, each_joined, each_left, each_between}
 use Rattle.std.specs.Prelude.{option_map}
 use Rattle.std.proofs.Common.{take, add-one}
 use Rattle.std.proofs.lemmas.Option.{slice_get-map, slice_get-get_or}
 use Rattle.std.proofs.lemmas.List.{map_push}
-use Rattle.sequence.proofs.Places.{take_next}
+use Rattle.base_library.proofs.Places.{take_next}
 use Rattle.term_congruence.specs.declared.closing.LabelPair.{LabelPair}
 use Rattle.term_congruence.specs.internal.PairView.{pair_tree}
 use Rattle.term_congruence.specs.internal.Shapes.{ShapeTree, leaf_shape, applied_shape}

@@ -4,8 +4,8 @@ use Rattle.std.specs.Prelude.{option_map}
 use Rattle.std.proofs.Common.{append-nil, append_assoc}
 use Rattle.std.proofs.lemmas.Option.{slice_get-map, slice_get_read, none-some}
 use Rattle.std.proofs.lemmas.List.{map_push}
-use Rattle.sequence.proofs.Each.{each_at}
-use Rattle.sequence.proofs.Lists.{made_more}
+use Rattle.base_library.proofs.Each.{each_at}
+use Rattle.base_library.proofs.Lists.{made_more}
 use Rattle.tsl_terms.specs.declared.window.Equated.{Equated}
 use Rattle.term_congruence.specs.declared.closing.LabelPair.{LabelPair}
 use Rattle.term_congruence.specs.declared.shapes.Shape.{Shape}

@@ -2,8 +2,8 @@
 use Rattle.std.proofs.Common.{◌≡◌, ◌∙◌, ℕ, ◌<◌, ◌⊎◌, List, [], ◌∷◌, ◌++◌, length, Some, slice_get, refl, sym, ap, subst, inl, inr}
 use Rattle.std.specs.List.{AllByRecursion}
 use Rattle.std.proofs.lemmas.Option.{slice_get_within}
-use Rattle.sequence.proofs.Each.{each_from_places}
-use Rattle.sequence.proofs.Places.{slice_get_push, slice_get_grown, slice_get-behind}
+use Rattle.base_library.proofs.Each.{each_from_places}
+use Rattle.base_library.proofs.Places.{slice_get_push, slice_get_grown, slice_get-behind}
 use Rattle.tsl_terms.specs.FreeTree.{FreeTree, leaf_at, applied, FreeTrees, no_free, more_free}
 use Rattle.term_congruence.specs.internal.Shapes.{ShapeTree, leaf_shape, applied_shape, IsLabelOf, AreLabelsOf, AreDifferent, AllStand, Stands, KeepsShapes}
 use Rattle.term_congruence.specs.internal.Closing.{IsPlaced, HasPartsBelow}

@@ -2,7 +2,7 @@
 use Rattle.std.proofs.Common.{◌≡◌, ◌∙◌, ℕ, suc, ◌+◌, ◌<◌, ◌⊎◌, List, [], ◌∷◌, ◌++◌, length, Some, slice_get, refl, sym, ap, subst, inl, inr}
 use Rattle.std.proofs.lemmas.List.{length_push}
 use Rattle.std.proofs.lemmas.Option.{none-some, same_Some, option_and_then_some}
-use Rattle.sequence.proofs.Places.{slice_get_push}
+use Rattle.base_library.proofs.Places.{slice_get_push}
 use Rattle.tsl_terms.specs.TermTree.{TermTree, terms_of}
 use Rattle.tsl_terms.specs.WindowTree.{ListedTree}
 use Rattle.tsl_terms.specs.Unfolding.{signal_unfolded, term_listed}
@@ -15,8 +15,8 @@ use Rattle.std.proofs.Common.{map, get_or, flat_map, arith}
 use Rattle.std.specs.Prelude.{option_and_then}
 use Rattle.std.specs.List.{AllByRecursion}
 use Rattle.std.proofs.lemmas.List.{length-map}
-use Rattle.sequence.proofs.Each.{each_from_places}
-use Rattle.sequence.proofs.Places.{slice_get_mapped}
+use Rattle.base_library.proofs.Each.{each_from_places}
+use Rattle.base_library.proofs.Places.{slice_get_mapped}
 use Rattle.tsl_terms.specs.declared.window.Equated.{Equated}
 use Rattle.tsl_terms.specs.FreeTree.{FreeTree}
 use Rattle.tsl_terms.specs.Unfolding.{unfolded}

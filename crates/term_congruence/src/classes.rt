@@ -19,7 +19,7 @@ use crate::congruence::labels_at;
 use crate::labelling::{labels_of_terms, labels_of_updates};
 use crate::shapes::{Shape, classes_at};
 use indexmap::IndexSet;
-use sequence::{NoMemory, Sequence};
+use base_library::{NoMemory, Sequence};
 use std::alloc::Global;
 use tsl_terms::{Equated, Listed, Term, TermList};
 

@@ -7,7 +7,7 @@ ghost use Rattle.term_congruence.specs.internal.Shapes.{Stands, KeepsShapes};
 ghost use Rattle.term_congruence.specs.internal.ShapeView.{shape_tree, shape_trees};
 
 use indexmap::IndexSet;
-use sequence::NoMemory;
+use base_library::NoMemory;
 use std::alloc::Global;
 
 /// What a label stands for.

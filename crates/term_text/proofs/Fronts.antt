@@ -5,7 +5,7 @@ use Rattle.std.specs.List.{list_all}
 use Rattle.std.proofs.lemmas.Bool.Decides.{nat_tests}
 use Rattle.std.proofs.lemmas.Bool.{and_parts, and_from}
 use Rattle.tsl_text.specs.Names.{is_name_start, is_name_byte, is_name_text}
-pub use Rattle.sequence.proofs.Lists.{heads, tails}
+pub use Rattle.base_library.proofs.Lists.{heads, tails}
 pub use Rattle.tsl_text.proofs.Fronts.{begins, other_front, one_run}
 
 abbrev pub is_space : ℕ → Bool

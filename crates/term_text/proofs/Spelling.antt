@@ -5,7 +5,7 @@ use Rattle.std.proofs.lemmas.Bool.{and_parts, or_cases, false≢true, false_from
 use Rattle.std.proofs.lemmas.List.{append_cancel_left}
 use Rattle.std.specs.Str.{bytes_eq}
 use Rattle.std.proofs.lemmas.Slice.Eq.{bytes_eq-Decides}
-use Rattle.sequence.proofs.Options.{some_passes}
+use Rattle.base_library.proofs.Options.{some_passes}
 use Rattle.tsl_text.specs.Names.{is_name_byte, is_name_text, is_usable, is_reserved}
 use Rattle.tsl_terms.specs.Name.{Name, AreDistinct, question}
 use Rattle.tsl_terms.specs.TermTree.{TermTree, signal, apply, TermTrees, no_terms, more_terms, ProbeTree}

@@ -16,7 +16,7 @@ mod laws;
 mod window;
 
 pub use laws::one_spelling;
-use sequence::NoMemory;
+use base_library::NoMemory;
 use tsl_terms::{Names, Probe, Term, TermList};
 use tsl_text::put_bytes;
 pub use window::put_window;

@@ -9,7 +9,7 @@ ghost use Rattle.term_text.specs.TermText.{probe_text, probe_is_held};
 ghost use Rattle.term_text.specs.WindowText.{left_text, listed_text, equated_text, window_text, listed_is_held, window_is_held};
 
 use crate::{put, put_probe, put_update};
-use sequence::NoMemory;
+use base_library::NoMemory;
 use tsl_terms::{Equated, Listed, Names, Probe, Window};
 use tsl_text::put_number;
 
@@ -28,7 +28,7 @@ pub fn put_window(out: &mut Vec<u8>, names: &Names, window: &Window) -> Result<(
 }
 
 /// Appends a window's line up to what it lists.
-#[tactic(auto, using(crate::proofs::Begins::begins_longer, sequence::proofs::Passes::list_all_parts))]
+#[tactic(auto, using(crate::proofs::Begins::begins_longer, base_library::proofs::Passes::list_all_parts))]
 fn put_sides(out: &mut Vec<u8>, names: &Names, window: &Window) -> Result<(), NoMemory>
     requires { IsTrue (list_all (probe_is_held names.now)
         (left_probes (window_tree window.now).left ++ (window_tree window.now).right ∷ [])) }

@@ -10,7 +10,7 @@ ghost use Rattle.interp_core.specs.FreeView.{free_tree};
 ghost use Rattle.interp_core.specs.internal.LeavesWithin.{leaves_within};
 
 use interp_core::{Algebra, FreeTerm, Leaves, TermAlgebra, Wheel, evaluate, image};
-use sequence::{NoMemory, Sequence};
+use base_library::{NoMemory, Sequence};
 use std::alloc::Global;
 use std::test::Fail;
 use tsl_terms::{Term, TermList};

@@ -1,6 +1,6 @@
 //! Long lists of terms and formulas, which take no stack.
 
-use sequence::NoMemory;
+use base_library::NoMemory;
 use std::alloc::Global;
 use std::test::Fail;
 use tsl_terms::{

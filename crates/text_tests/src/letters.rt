@@ -1,6 +1,6 @@
 //! Loops of letters as texts.
 
-use letter_text::{read_letters, write_letters};
+use lasso_text::{read_letters, write_letters};
 use std::process::Abort;
 use std::test::Fail;
 

@@ -3,7 +3,7 @@
 use crate::devices::{
     COPIED, COPY, Case, Repeated, assert_each, assert_repeated, assert_run, repeated,
 };
-use search_replies::whole_text;
+use synthesis_commands::whole_text;
 use std::test::Fail;
 use tsl_reader::read_spec;
 

@@ -12,7 +12,7 @@ ghost use Rattle.trace_text.specs.TraceText.{place_line, values_text, position_t
 ghost use Rattle.trace_text.specs.TraceText.{subject_text, verdict_text, verdicts_text, trace_text, position_is_held, RunIsHeld};
 
 use flow_program::put_updates;
-use sequence::NoMemory;
+use base_library::NoMemory;
 use std::alloc::Global;
 use term_text::put_name;
 use tsl_meaning::{LoopRun, Position};

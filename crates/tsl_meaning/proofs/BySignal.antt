@@ -4,11 +4,11 @@ use Rattle.std.proofs.Common.{Option, Some, None, map, sym, ap, subst, arith}
 use Rattle.std.specs.Prelude.{option_and_then, IsSome, IfSome}
 use Rattle.std.specs.Option.{option_map_or}
 use Rattle.std.specs.List.{AllByRecursion}
-use Rattle.sequence.proofs.Each.{each_map, each_unmapped}
+use Rattle.base_library.proofs.Each.{each_map, each_unmapped}
 use Rattle.std.proofs.lemmas.List.{map_push}
 use Rattle.std.proofs.lemmas.Option.{same_Some}
-use Rattle.sequence.proofs.Lists.{map_map}
-use Rattle.sequence.proofs.Places.{slice_get_some, take_next}
+use Rattle.base_library.proofs.Lists.{map_map}
+use Rattle.base_library.proofs.Places.{slice_get_some, take_next}
 use Rattle.tsl_terms.specs.TermTree.{signal, no_terms, more_terms, ProbeTree}
 use Rattle.tsl_terms.specs.Value.{Meanings, values, truth}
 use Rattle.interp_core.specs.declared.leaves.Leaves.{Leaves}

@@ -1,7 +1,7 @@
 -- The number of equality says what the names say.
 use Rattle.std.proofs.Common.{◌≡◌, ◌∙◌, ℕ, ◌==◌, Bool, true, false, List, Option, Some, None, refl, sym, ap}
 use Rattle.std.proofs.lemmas.Bool.{eqb-true, eq-eqb}
-use Rattle.sequence.specs.Options.{passes}
+use Rattle.base_library.specs.Options.{passes}
 use Rattle.tsl_terms.specs.Name.{Name}
 use Rattle.tsl_terms.specs.Equality.{is_equality}
 use Rattle.program_tree.specs.ProgramTree.{ProgramTree}

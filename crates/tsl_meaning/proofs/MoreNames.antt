@@ -2,8 +2,8 @@
 use Rattle.std.proofs.Common.{◌≡◌, ◌∙◌, ℕ, ◌==◌, true, false, ◌&&◌, List, ◌++◌, ap}
 use Rattle.std.specs.Option.{option_map_or}
 use Rattle.std.proofs.lemmas.Bool.{and_parts, and_from}
-use Rattle.sequence.proofs.Passes.{within_from_test}
-use Rattle.sequence.proofs.Places.{slice_get-front}
+use Rattle.base_library.proofs.Passes.{within_from_test}
+use Rattle.base_library.proofs.Places.{slice_get-front}
 use Rattle.tsl_terms.specs.declared.names.NameKind.{NameKind}
 use Rattle.tsl_terms.specs.declared.names.NameKind.TheVariants.{Signal, Function, Predicate}
 use Rattle.tsl_terms.specs.Name.{Name, is_name, same_kind}

@@ -5,8 +5,8 @@ use Rattle.std.specs.Prelude.{nat_le, nat_lt}
 use Rattle.std.specs.List.{list_all, AllByRecursion}
 use Rattle.std.proofs.lemmas.Bool.{and_parts, and_from, or_left}
 use Rattle.std.proofs.lemmas.List.Folds.{list_all-append, list_all-map, list_any-append}
-use Rattle.sequence.proofs.Passes.{list_all_weaker, list_all_from_places, each_from_list_all}
-use Rattle.sequence.proofs.Each.{each_both}
+use Rattle.base_library.proofs.Passes.{list_all_weaker, list_all_from_places, each_from_list_all}
+use Rattle.base_library.proofs.Each.{each_both}
 use Rattle.tsl_terms.specs.Name.{Name}
 use Rattle.tsl_terms.specs.FormulaTree.{Atom, test, update}
 use Rattle.tsl_terms.specs.Atoms.{atoms}
@@ -19,7 +19,7 @@ use Rattle.tsl_terms.proofs.SignalFacts.{whole_reads, whole_updates}
 use Rattle.tsl_terms.proofs.WholeAtoms.{whole_is_made_of}
 use Rattle.tsl_terms.proofs.WindowAtoms.{window_formula_atoms}
 use Rattle.program_tree.specs.ProgramTree.{ProgramTree, controlled}
-use Rattle.sequence.specs.Numbers.{is_among}
+use Rattle.base_library.specs.Numbers.{is_among}
 use Rattle.program_tree.specs.Fits.{window_is_shaped, window_reads_only, window_fits, longest, rises}
 use Rattle.tsl_meaning.specs.OverNames.{probe_is_over, listed_is_over, window_is_over, atom_is_over, IsProgramOver, IsFormulaOver}
 use Rattle.tsl_meaning.proofs.Naming.{atom_over}

@@ -7,8 +7,8 @@ use Rattle.std.specs.Option.{option_map_or}
 use Rattle.std.specs.List.{AllByRecursion}
 use Rattle.std.proofs.lemmas.List.{length-map}
 use Rattle.std.proofs.lemmas.Result.{IfOk-weaker}
-use Rattle.sequence.proofs.Each.{each_map, each_unmapped}
-use Rattle.sequence.proofs.Lists.{map_map}
+use Rattle.base_library.proofs.Each.{each_map, each_unmapped}
+use Rattle.base_library.proofs.Lists.{map_map}
 use Rattle.loop_shape.specs.LoopShape.{LoopShape}
 use Rattle.lane_planes.specs.Planes.{same_bit}
 use Rattle.position_planes.specs.Positions.{IsPlaneOf, loop_of}

@@ -9,10 +9,10 @@ use Rattle.std.proofs.lemmas.Bool.Decides.{eqb_tells}
 use Rattle.std.proofs.lemmas.List.{length-append, length-take-le}
 use Rattle.std.proofs.lemmas.List.Elements.{recursion_from_All}
 use Rattle.std.proofs.lemmas.List.Folds.{list_any-append}
-use Rattle.sequence.specs.Options.{all_there}
-use Rattle.sequence.proofs.Each.{each_at, each_joined}
-use Rattle.sequence.proofs.Places.{slice_get_some}
-use Rattle.sequence.proofs.Numbers.{among_first, among_next}
+use Rattle.base_library.specs.Options.{all_there}
+use Rattle.base_library.proofs.Each.{each_at, each_joined}
+use Rattle.base_library.proofs.Places.{slice_get_some}
+use Rattle.base_library.proofs.Numbers.{among_first, among_next}
 use Rattle.tsl_terms.specs.Name.{Name}
 use Rattle.tsl_terms.specs.TermTree.{TermTree, ProbeTree}
 use Rattle.tsl_terms.specs.FormulaTree.{Atom, test, update, FormulaTree}
@@ -20,7 +20,7 @@ use Rattle.tsl_terms.specs.Atoms.{atoms}
 use Rattle.tsl_terms.specs.OnlyThese.{reads_only, read_only, atom_reads_only, atom_updates_only}
 use Rattle.tsl_terms.specs.Value.{Meanings, value, truth, beside}
 use Rattle.program_tree.specs.ProgramTree.{ProgramTree, controlled}
-use Rattle.sequence.specs.Numbers.{is_among}
+use Rattle.base_library.specs.Numbers.{is_among}
 use Rattle.tsl_meaning.specs.OverNames.{term_is_over, probe_is_over, atom_is_over, IsProgramOver, IsFormulaOver}
 use Rattle.tsl_meaning.specs.Interpretation.{Interpretation, InputRows, IsInterpretation, IsInputLoop, IsRow, meanings_in}
 use Rattle.tsl_meaning.specs.Run.{Configuration, HasStep, row_at, place_after, signal_value, action_in, configuration_after}

@@ -3,8 +3,8 @@ use Rattle.std.proofs.Common.{◌≡◌, ◌∙◌, ℕ, ◌+◌, ◌<◌, ◌++
 use Rattle.std.specs.Prelude.{option_and_then, IsSome}
 use Rattle.std.specs.Option.{option_or, option_map_or}
 use Rattle.std.specs.List.{AllByRecursion}
-use Rattle.sequence.proofs.Each.{each_from_places}
-use Rattle.sequence.proofs.Places.{slice_get_some}
+use Rattle.base_library.proofs.Each.{each_from_places}
+use Rattle.base_library.proofs.Places.{slice_get_some}
 use Rattle.loop_shape.specs.LoopShape.{IsPosition}
 use Rattle.tsl_terms.specs.TermTree.{TermTree, ProbeTree}
 use Rattle.tsl_terms.specs.SameTree.{same_tree}

@@ -3,8 +3,8 @@ use Rattle.std.proofs.Common.{◌≡◌, ◌∙◌, ℕ, zero, suc, ◌+◌, ◌
 use Rattle.std.proofs.Common.{arith}
 use Rattle.std.specs.Prelude.{option_and_then}
 use Rattle.std.specs.List.{list_all}
-use Rattle.sequence.proofs.Places.{slice_get_some}
-use Rattle.sequence.proofs.Passes.{passes_at}
+use Rattle.base_library.proofs.Places.{slice_get_some}
+use Rattle.base_library.proofs.Passes.{passes_at}
 use Rattle.tsl_terms.specs.Name.{Name}
 use Rattle.tsl_terms.specs.TermTree.{ProbeTree}
 use Rattle.program_tree.specs.NodeTree.{NodeTree, branch, assign}

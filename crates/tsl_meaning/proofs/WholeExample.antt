@@ -5,7 +5,7 @@ use Rattle.std.proofs.Common.{lit<, lit≤}
 use Rattle.std.specs.Prelude.{All, ◌≢◌}
 use Rattle.std.proofs.lemmas.List.Elements.{All-from_recursion}
 use Rattle.std.proofs.lemmas.Option.{same_Some}
-use Rattle.sequence.proofs.Numbers.{distinct_from_apart}
+use Rattle.base_library.proofs.Numbers.{distinct_from_apart}
 use Rattle.loop_shape.specs.LoopShape.{LoopShape}
 use Rattle.tsl_terms.specs.declared.names.NameKind.{NameKind}
 use Rattle.tsl_terms.specs.declared.names.NameKind.TheVariants.{Signal, Function, Predicate}

@@ -4,7 +4,7 @@
 use Rattle.std.specs.Prelude.{◌≡◌, ◌≢◌, ◌↔◌, ℕ, ◌+◌, ◌*◌, ◌^◌, ◌<◌, ◌≤◌, ◌==◌, Bool, false, List, [], ◌∷◌, length, Option, Some, None}
 use Rattle.std.specs.Prelude.{option_map, option_and_then, slice_get, fold, All, nat_lt, if◌then◌else◌, IsTrue}
 use Rattle.std.specs.List.{list_all}
-use Rattle.sequence.specs.Options.{passes}
+use Rattle.base_library.specs.Options.{passes}
 use Rattle.tsl_terms.specs.declared.names.NameKind.TheVariants.{Function, Predicate}
 use Rattle.tsl_terms.specs.Name.{Name}
 use Rattle.tsl_terms.specs.Equality.{is_equality}

@@ -4,7 +4,7 @@
 use Rattle.std.specs.Prelude.{◌≡◌, ℕ, zero, suc, ◌+◌, ◌≤◌, ◌==◌, Bool, List, ◌++◌, length, map, take, Option, Some, option_map}
 use Rattle.std.specs.Prelude.{option_and_then, slice_get, if◌then◌else◌}
 use Rattle.std.specs.Option.{option_or}
-use Rattle.sequence.specs.Options.{all_there}
+use Rattle.base_library.specs.Options.{all_there}
 use Rattle.loop_shape.specs.LoopShape.{LoopShape}
 use Rattle.tsl_terms.specs.TermTree.{TermTree, ProbeTree}
 use Rattle.tsl_terms.specs.Value.{Meanings, value, truth, beside}

@@ -17,7 +17,7 @@ use crate::columns::{RunValues, only_column};
 use crate::run::{LoopRun, Position};
 use interp_core::{Algebra, Judge, Leaves, push_values};
 use position_planes::plane_of;
-use sequence::NoMemory;
+use base_library::NoMemory;
 use std::alloc::Global;
 use tsl_terms::{AtomRef, Probe, Term, TermList, same_term};
 

@@ -11,7 +11,7 @@ ghost use Rattle.tsl_meaning.specs.internal.Columns.{AreOf, HaveColumns, HaveVal
 use crate::leaves::leaves_of;
 use crate::run::LoopRun;
 use interp_core::{Judge, Leaves};
-use sequence::NoMemory;
+use base_library::NoMemory;
 use std::alloc::Global;
 use tsl_terms::{Term, TermList};
 

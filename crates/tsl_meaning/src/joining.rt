@@ -10,7 +10,7 @@ use position_planes::{
     both, either, everywhere, finally, globally, implied, negated, next, nowhere, release, same,
     until, weak_until,
 };
-use sequence::NoMemory;
+use base_library::NoMemory;
 use std::alloc::Global;
 use tsl_terms::{BinaryOperator, ManyOperator, UnaryOperator};
 

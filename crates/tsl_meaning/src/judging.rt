@@ -17,7 +17,7 @@ use crate::run::LoopRun;
 use crate::shared_atoms::{SharedAtoms, plane_of_atom, shared_atoms};
 use interp_core::Judge;
 use position_planes::holds_at;
-use sequence::NoMemory;
+use base_library::NoMemory;
 use std::alloc::Global;
 use tsl_terms::{Formula, FormulaList, FormulaParts, ManyOperator};
 

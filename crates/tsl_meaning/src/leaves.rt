@@ -7,7 +7,7 @@ ghost use Rattle.tsl_meaning.specs.RunLasso.{value_at};
 
 use crate::run::{LoopRun, Position};
 use interp_core::{Judge, Leaves};
-use sequence::{NoMemory, Sequence};
+use base_library::{NoMemory, Sequence};
 use std::alloc::Global;
 
 /// The values of the inputs and cells at each position.

@@ -1,10 +1,10 @@
 //! Input loops, and runs that close.
 
 ghost use Rattle.std.specs.Prelude.{◌≡◌, ◌+◌, ◌<◌, ◌++◌, length as count_of};
-ghost use Rattle.sequence.specs.Numbers.{IsDistinct};
+ghost use Rattle.base_library.specs.Numbers.{IsDistinct};
 ghost use Rattle.tsl_meaning.specs.LoopFits.{PositionsFit};
 
-use sequence::Sequence;
+use base_library::Sequence;
 use tsl_terms::Term;
 
 /// An eventually periodic input: rows of values, those of the stem once and then those of the cycle

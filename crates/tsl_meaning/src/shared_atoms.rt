@@ -15,7 +15,7 @@ use crate::marks::mark_of;
 use crate::run::LoopRun;
 use indexmap::IndexMap;
 use interp_core::Judge;
-use sequence::NoMemory;
+use base_library::NoMemory;
 use std::alloc::Global;
 use tsl_terms::{AtomRef, Formula, atoms, same_probe, same_term};
 

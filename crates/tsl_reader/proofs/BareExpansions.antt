@@ -11,12 +11,12 @@ use Rattle.spec_syntax.specs.declared.syntax.Part.{Part}
 use Rattle.spec_syntax.specs.Syntax.{TermSyntax, alone, applied, grouped_term, TermsSyntax, no_terms, more_terms, FormulaSyntax, truth}
 use Rattle.spec_syntax.specs.Syntax.{falsehood, bare, tested, updated, grouped, under, between, joined, FormulasSyntax, no_formulas}
 use Rattle.spec_syntax.specs.Syntax.{more_formulas, SectionSyntax, Definition}
-use Rattle.named_formulas.specs.declared.definitions.ReadDefinition.{ReadDefinition}
-use Rattle.named_formulas.specs.DefinitionView.{definition_of, named_in, AreHeads}
-use Rattle.named_formulas.specs.Expansion.{expanded}
-use Rattle.named_formulas.specs.Folds.{fold_term, fold_terms, fold, fold_members, node_counts}
-use Rattle.named_formulas.specs.SectionExpansion.{expanded_section, expanded_sections}
-use Rattle.named_formulas.proofs.FoldLaws.{number_of_expansion}
+use Rattle.definition_expansion.specs.declared.definitions.ReadDefinition.{ReadDefinition}
+use Rattle.definition_expansion.specs.DefinitionView.{definition_of, named_in, AreHeads}
+use Rattle.definition_expansion.specs.Expansion.{expanded}
+use Rattle.definition_expansion.specs.Folds.{fold_term, fold_terms, fold, fold_members, node_counts}
+use Rattle.definition_expansion.specs.SectionExpansion.{expanded_section, expanded_sections}
+use Rattle.definition_expansion.proofs.FoldLaws.{number_of_expansion}
 use Rattle.tsl_reader.specs.Naming.{term_uses, terms_uses, uses, members_uses, section_uses, all_uses, numbered_list}
 use Rattle.tsl_reader.specs.Naming.{same_part, formulas_of_part}
 use Rattle.tsl_reader.specs.ReadText.{StandFor}

@@ -19,11 +19,11 @@ use Rattle.tsl_reader.specs.Spells.{deepest_level, most_formula_nodes, Derives, 
 use Rattle.tsl_reader.specs.Spells.{HasTooManyNodes}
 use Rattle.spec_syntax.proofs.ExactSections.{one_tree}
 use Rattle.spec_syntax.proofs.DeclarationLaws as declared
-use Rattle.named_formulas.specs.DefinitionView.{named_in}
-use Rattle.named_formulas.specs.TextExpansion.{Expands}
-use Rattle.named_formulas.specs.WellUsed.{as_written}
-use Rattle.named_formulas.proofs.OneExpansion.{one_expansion}
-use Rattle.declared_names.specs.Heads.{definitions_in}
+use Rattle.definition_expansion.specs.DefinitionView.{named_in}
+use Rattle.definition_expansion.specs.TextExpansion.{Expands}
+use Rattle.definition_expansion.specs.WellUsed.{as_written}
+use Rattle.definition_expansion.proofs.OneExpansion.{one_expansion}
+use Rattle.name_resolution.specs.Heads.{definitions_in}
 
 -- a text derives from one list of sections and definitions, and its sections from one list of terminals
 pub one_derivation : (text : List ℕ) (a b : List Token) (own other : List Terminal) (ds es : List Declaration) → Derives text a own ds →

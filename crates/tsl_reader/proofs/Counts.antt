@@ -1,11 +1,11 @@
 -- A text has not more tokens than bytes, and not more names than tokens.
 use Rattle.std.proofs.Common.{ℕ, ◌+◌, ◌≤◌, List, [], ◌∷◌, length, ap, arith, length-append}
-use Rattle.sequence.proofs.Passes.{filter_within}
+use Rattle.base_library.proofs.Passes.{filter_within}
 use Rattle.tsl_text.specs.declared.Token.{Token}
 use Rattle.tsl_text.specs.Division.{Part, blank, comment, lexeme, Divides, tokens_from, AreTokens}
 use Rattle.tsl_text.proofs.Pieces.{token_not_empty}
 use Rattle.spec_syntax.specs.Syntax.{Terminal, Declaration}
-use Rattle.declared_names.specs.WellDeclared.{names_in}
+use Rattle.name_resolution.specs.WellDeclared.{names_in}
 use Rattle.spec_syntax.specs.Texts.{terminal_at}
 use Rattle.tsl_reader.specs.Spells.{is_free, Derives}
 use Rattle.tsl_reader.proofs.NamePlaces.{as_many_names}

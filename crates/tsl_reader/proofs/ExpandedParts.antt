@@ -5,16 +5,16 @@ use Rattle.tsl_text.specs.declared.Token.{Token}
 use Rattle.tsl_terms.specs.Name.{Name}
 use Rattle.spec_syntax.specs.declared.syntax.Part.TheVariants.{AssumeFirst, AssumeAlways, GuaranteeFirst, GuaranteeAlways}
 use Rattle.spec_syntax.specs.Syntax.{Terminal, SectionSyntax, Definition, Declaration, sections_among}
-use Rattle.named_formulas.specs.declared.sizing.Size.{Size}
-use Rattle.named_formulas.specs.declared.sizing.TheConstants.{NODES_STOP}
-use Rattle.named_formulas.specs.Uses.{IsOrder}
-use Rattle.named_formulas.specs.SectionExpansion.{expanded_sections}
-use Rattle.named_formulas.specs.ExpansionSizes.{AreSizes}
-use Rattle.declared_names.specs.Heads.{definitions_in}
-use Rattle.declared_names.specs.Occurrences.{Occurrence}
-use Rattle.declared_names.specs.Faults.{has_kind_fault, has_arity_fault}
-use Rattle.declared_names.specs.WellDeclared.{heads_of, names_in, is_use_too_deep}
-use Rattle.declared_names.proofs.Expanded.{expansion_fits}
+use Rattle.definition_expansion.specs.declared.sizing.Size.{Size}
+use Rattle.definition_expansion.specs.declared.sizing.TheConstants.{NODES_STOP}
+use Rattle.definition_expansion.specs.Uses.{IsOrder}
+use Rattle.definition_expansion.specs.SectionExpansion.{expanded_sections}
+use Rattle.definition_expansion.specs.ExpansionSizes.{AreSizes}
+use Rattle.name_resolution.specs.Heads.{definitions_in}
+use Rattle.name_resolution.specs.Occurrences.{Occurrence}
+use Rattle.name_resolution.specs.Faults.{has_kind_fault, has_arity_fault}
+use Rattle.name_resolution.specs.WellDeclared.{heads_of, names_in, is_use_too_deep}
+use Rattle.name_resolution.proofs.Expanded.{expansion_fits}
 use Rattle.tsl_reader.specs.Naming.{names_of}
 use Rattle.tsl_reader.specs.Spells.{most_formula_nodes, HasTooManyNodes}
 use Rattle.tsl_reader.specs.ReadText.{AreTextParts, AreWell, AreExpanded}

@@ -9,11 +9,11 @@ use Rattle.spec_syntax.specs.declared.syntax.Part.{Part}
 use Rattle.spec_syntax.specs.Syntax.{Terminal, SectionSyntax, Declaration}
 use Rattle.spec_syntax.specs.Grammar.{AreSections}
 use Rattle.spec_syntax.specs.Texts.{terminals}
-use Rattle.named_formulas.specs.DefinitionView.{named_in}
-use Rattle.named_formulas.specs.TextExpansion.{Expands}
-use Rattle.named_formulas.specs.WellUsed.{as_written}
-use Rattle.declared_names.specs.Heads.{definitions_in}
-use Rattle.declared_names.specs.WellDeclared.{AreNamedWell}
+use Rattle.definition_expansion.specs.DefinitionView.{named_in}
+use Rattle.definition_expansion.specs.TextExpansion.{Expands}
+use Rattle.definition_expansion.specs.WellUsed.{as_written}
+use Rattle.name_resolution.specs.Heads.{definitions_in}
+use Rattle.name_resolution.specs.WellDeclared.{AreNamedWell}
 use Rattle.tsl_reader.specs.Naming.{named_by, names_of, numbered_list, formulas_of_part}
 use Rattle.tsl_reader.specs.Numbering.{HasNumbers}
 use Rattle.tsl_reader.specs.Spells.{deepest_level, Derives}

@@ -2,21 +2,21 @@
 use Rattle.std.proofs.Common.{◌≡◌, ℕ, Bool, true, false, List, refl, ap, sym, ◌∙◌, subst}
 use Rattle.std.specs.List.{AllByRecursion}
 use Rattle.std.proofs.lemmas.Bool.{eq-eqb, true≢false}
-use Rattle.sequence.proofs.Each.{each_at}
+use Rattle.base_library.proofs.Each.{each_at}
 use Rattle.tsl_terms.specs.declared.names.NameKind.{NameKind}
 use Rattle.tsl_terms.specs.declared.names.NameKind.TheVariants.{Signal, Function, Predicate}
 use Rattle.tsl_terms.specs.Name.{Name, same_kind}
 use Rattle.tsl_terms.specs.Clashes.{alike_in_kind, same_arity, HasNoClash}
 use Rattle.spec_syntax.specs.Syntax.{Terminal, SectionSyntax, Declaration}
 use Rattle.spec_syntax.specs.Grammar.{AreSections, AreDeclarations}
-use Rattle.named_formulas.specs.DefinitionView.{named_in}
-use Rattle.named_formulas.specs.TextExpansion.{Expands}
-use Rattle.named_formulas.specs.WellUsed.{as_written}
-use Rattle.named_formulas.specs.Occurrences.{Passing}
-use Rattle.declared_names.specs.Heads.{definitions_in}
-use Rattle.declared_names.specs.WellDeclared.{occurs_plain, heads_of, names_in, AreNamedWell}
-use Rattle.declared_names.proofs.AlikePlain.{plain_kinds, plain_arities}
-use Rattle.declared_names.proofs.Expanded.{expanded_names}
+use Rattle.definition_expansion.specs.DefinitionView.{named_in}
+use Rattle.definition_expansion.specs.TextExpansion.{Expands}
+use Rattle.definition_expansion.specs.WellUsed.{as_written}
+use Rattle.definition_expansion.specs.Occurrences.{Passing}
+use Rattle.name_resolution.specs.Heads.{definitions_in}
+use Rattle.name_resolution.specs.WellDeclared.{occurs_plain, heads_of, names_in, AreNamedWell}
+use Rattle.name_resolution.proofs.AlikePlain.{plain_kinds, plain_arities}
+use Rattle.name_resolution.proofs.Expanded.{expanded_names}
 use Rattle.tsl_reader.specs.Naming.{written_uses}
 use Rattle.tsl_reader.proofs.UsesStand.{Stands, names_stand}
 

@@ -5,9 +5,9 @@ use Rattle.std.specs.List.{AllByRecursion}
 use Rattle.std.specs.Str.{bytes_eq}
 use Rattle.std.proofs.lemmas.Bool.{and_parts}
 use Rattle.std.proofs.lemmas.Option.{slice_get-map}
-use Rattle.sequence.proofs.Bytes.{same_bytes}
-use Rattle.sequence.proofs.Each.{each_at, each_weaker}
-use Rattle.sequence.proofs.Passes.{list_any_place}
+use Rattle.base_library.proofs.Bytes.{same_bytes}
+use Rattle.base_library.proofs.Each.{each_at, each_weaker}
+use Rattle.base_library.proofs.Passes.{list_any_place}
 use Rattle.tsl_text.specs.declared.Token.{Token}
 use Rattle.tsl_text.specs.Division.{AreTokens}
 use Rattle.tsl_terms.specs.declared.names.NameKind.{NameKind}
@@ -15,17 +15,17 @@ use Rattle.tsl_terms.specs.Name.{same_kind}
 use Rattle.spec_syntax.specs.Syntax.{Terminal, SectionSyntax, Declaration}
 use Rattle.spec_syntax.specs.Grammar.{AreSections, AreDeclarations}
 use Rattle.spec_syntax.specs.Texts.{terminals}
-use Rattle.named_formulas.specs.DefinitionView.{named_in}
-use Rattle.named_formulas.specs.TextExpansion.{Expands}
-use Rattle.named_formulas.specs.WellUsed.{as_written}
-use Rattle.named_formulas.specs.Occurrences.{Passing}
-use Rattle.declared_names.specs.Heads.{definitions_in}
-use Rattle.declared_names.specs.Occurrences.{Occurrence}
-use Rattle.declared_names.specs.Faults.{is_plain}
-use Rattle.declared_names.specs.WrittenNames.{free_names}
-use Rattle.declared_names.specs.WellDeclared.{occurs_plain, heads_of, names_in, AreNamedWell}
-use Rattle.declared_names.proofs.WrittenTexts.{occurrences_texts, texts_are_names}
-use Rattle.declared_names.proofs.Expanded.{expanded_names}
+use Rattle.definition_expansion.specs.DefinitionView.{named_in}
+use Rattle.definition_expansion.specs.TextExpansion.{Expands}
+use Rattle.definition_expansion.specs.WellUsed.{as_written}
+use Rattle.definition_expansion.specs.Occurrences.{Passing}
+use Rattle.name_resolution.specs.Heads.{definitions_in}
+use Rattle.name_resolution.specs.Occurrences.{Occurrence}
+use Rattle.name_resolution.specs.Faults.{is_plain}
+use Rattle.name_resolution.specs.WrittenNames.{free_names}
+use Rattle.name_resolution.specs.WellDeclared.{occurs_plain, heads_of, names_in, AreNamedWell}
+use Rattle.name_resolution.proofs.WrittenTexts.{occurrences_texts, texts_are_names}
+use Rattle.name_resolution.proofs.Expanded.{expanded_names}
 use Rattle.tsl_reader.specs.Naming.{all_uses}
 use Rattle.tsl_reader.proofs.Usable.{IsUsable, usable_terminals}
 use Rattle.tsl_reader.proofs.UsesAreKnown.{UsesAreUsable}

@@ -9,16 +9,16 @@ use Rattle.std.proofs.lemmas.List.{length-map, map_push}
 use Rattle.std.proofs.lemmas.Option.{slice_get-map}
 use Rattle.std.proofs.lemmas.Map.Keys.{IsDistinct-push}
 use Rattle.std.proofs.lemmas.Map.Made.{length-le_from_is_member}
-use Rattle.sequence.proofs.Bytes.{same_bytes, bytes_same}
-use Rattle.sequence.proofs.Each.{each_at, each_from_places, each_joined}
-use Rattle.sequence.proofs.Passes.{list_any_place, list_any_contained}
-use Rattle.sequence.proofs.Places.{contains_at}
+use Rattle.base_library.proofs.Bytes.{same_bytes, bytes_same}
+use Rattle.base_library.proofs.Each.{each_at, each_from_places, each_joined}
+use Rattle.base_library.proofs.Passes.{list_any_place, list_any_contained}
+use Rattle.base_library.proofs.Places.{contains_at}
 use Rattle.tsl_terms.specs.Name.{Name, number_of, question, texts}
 use Rattle.tsl_terms.specs.Clashes.{added_unless_found, with_use, with_uses, first_uses}
 use Rattle.tsl_terms.specs.SpecTree.{SpecTree}
-use Rattle.named_formulas.proofs.FoundByNumber.{bytes_turned}
-use Rattle.declared_names.specs.WellDeclared.{names_in}
-use Rattle.declared_names.proofs.NameTests.{is_name_any}
+use Rattle.definition_expansion.proofs.FoundByNumber.{bytes_turned}
+use Rattle.name_resolution.specs.WellDeclared.{names_in}
+use Rattle.name_resolution.proofs.NameTests.{is_name_any}
 use Rattle.tsl_reader.specs.Naming.{Use, question_use, named_by, all_uses}
 use Rattle.tsl_reader.specs.Spells.{IsDerived, deepest_level}
 use Rattle.tsl_reader.proofs.Counts.{names_in_text}

@@ -5,9 +5,9 @@ use Rattle.std.specs.List.{list_all, sum_by, AllByRecursion}
 use Rattle.std.proofs.Math.Bool.{or-true}
 use Rattle.std.proofs.lemmas.Bool.{le-leb}
 use Rattle.std.proofs.lemmas.List.Sums.{sum_by-cons}
-use Rattle.sequence.proofs.Bytes.{bytes_same}
-use Rattle.sequence.proofs.Each.{each_left, each_right}
-use Rattle.sequence.proofs.Passes.{list_all_joined}
+use Rattle.base_library.proofs.Bytes.{bytes_same}
+use Rattle.base_library.proofs.Each.{each_left, each_right}
+use Rattle.base_library.proofs.Passes.{list_all_joined}
 use Rattle.tsl_terms.specs.declared.names.NameKind.TheVariants.{Signal, Function, Predicate}
 use Rattle.tsl_terms.specs.Name.{Name, is_name, question}
 use Rattle.tsl_terms.specs.TermTree.{TermTree, signal, apply, TermTrees, no_terms as no_trees, more_terms as more_trees, count_of_terms}
@@ -20,7 +20,7 @@ use Rattle.tsl_terms.specs.WellFormed.{brackets_of_arguments, deepest as most_br
 use Rattle.spec_syntax.specs.Syntax.{TermSyntax, alone, applied, grouped_term, TermsSyntax, no_terms, more_terms, FormulaSyntax, truth}
 use Rattle.spec_syntax.specs.Syntax.{falsehood, bare, tested, updated, grouped, under, between, joined, FormulasSyntax, no_formulas}
 use Rattle.spec_syntax.specs.Syntax.{more_formulas}
-use Rattle.named_formulas.specs.Folds.{fold_term, fold_terms, fold, fold_members, node_counts}
+use Rattle.definition_expansion.specs.Folds.{fold_term, fold_terms, fold, fold_members, node_counts}
 use Rattle.tsl_reader.specs.Naming.{use_as, tested_signal, count_of_arguments, term_uses, terms_uses, uses, members_uses}
 use Rattle.tsl_reader.specs.Naming.{numbered_term, numbered_terms, numbered_formula, numbered_members, numbered_list}
 use Rattle.tsl_reader.proofs.Shapes.{IsShaped, AreShaped, HasTwo, bracketed, nesting, nesting_of_arguments}

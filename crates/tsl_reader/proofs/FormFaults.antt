@@ -4,10 +4,10 @@ use Rattle.std.proofs.Common.{length-append, length-drop}
 use Rattle.std.proofs.lemmas.List.{map-append, append-nil, length-map, take-append-drop}
 use Rattle.std.proofs.lemmas.Option.{slice_get_past}
 use Rattle.std.specs.Prelude.{Ok, Err, slice_get, MatchOption}
-use Rattle.sequence.proofs.Places.{slice_get-behind}
+use Rattle.base_library.proofs.Places.{slice_get-behind}
 use Rattle.tsl_text.specs.declared.Token.{Token}
 use Rattle.tsl_text.specs.Division.{AreTokens}
-use Rattle.token_readers.specs.Readers.{form, deep}
+use Rattle.reader_combinators.specs.Readers.{form, deep}
 use Rattle.spec_syntax.specs.Syntax.{Terminal, Declaration}
 use Rattle.spec_syntax.specs.Reading.{declarations}
 use Rattle.spec_syntax.specs.Texts.{terminal_at, terminals}

@@ -4,8 +4,8 @@ use Rattle.std.proofs.lemmas.Grind.{common_steps}
 use Rattle.std.specs.Prelude.{Some, zero, suc, cond, slice_get, flat_map, IsTrue, ◌⊎◌}
 use Rattle.std.specs.List.{AllByRecursion}
 use Rattle.std.specs.Str.{bytes_eq}
-use Rattle.sequence.proofs.Bytes.{same_bytes}
-use Rattle.sequence.proofs.Each.{each_at}
+use Rattle.base_library.proofs.Bytes.{same_bytes}
+use Rattle.base_library.proofs.Each.{each_at}
 use Rattle.tsl_text.specs.Names.{is_usable}
 use Rattle.tsl_terms.specs.Name.{Name, question}
 use Rattle.tsl_terms.specs.Clashes.{alike_in_kind, same_arity, HasNoClash}

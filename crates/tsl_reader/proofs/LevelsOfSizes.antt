@@ -7,13 +7,13 @@ use Rattle.std.specs.Prelude.{◌&&◌, Option, option_map, position}
 use Rattle.std.proofs.lemmas.Option.{slice_get-map}
 use Rattle.tsl_terms.specs.Name.{Name}
 use Rattle.spec_syntax.specs.Syntax.{Definition}
-use Rattle.named_formulas.specs.declared.sizing.Size.{Size}
-use Rattle.named_formulas.specs.declared.sizing.TheConstants.{LEVELS_STOP}
-use Rattle.named_formulas.specs.Folds.{depths}
-use Rattle.named_formulas.specs.ExpansionSizes.{number_in, AreSizes}
-use Rattle.declared_names.specs.Occurrences.{Occurrence}
-use Rattle.declared_names.specs.Faults.{is_used, passes_deepest, is_deep_use}
-use Rattle.declared_names.specs.WellDeclared.{AreLevels, is_use_too_deep}
+use Rattle.definition_expansion.specs.declared.sizing.Size.{Size}
+use Rattle.definition_expansion.specs.declared.sizing.TheConstants.{LEVELS_STOP}
+use Rattle.definition_expansion.specs.Folds.{depths}
+use Rattle.definition_expansion.specs.ExpansionSizes.{number_in, AreSizes}
+use Rattle.name_resolution.specs.Occurrences.{Occurrence}
+use Rattle.name_resolution.specs.Faults.{is_used, passes_deepest, is_deep_use}
+use Rattle.name_resolution.specs.WellDeclared.{AreLevels, is_use_too_deep}
 
 -- the levels of sizes
 abbrev pub levels_of : List Size → List ℕ

@@ -5,7 +5,7 @@ use Rattle.std.specs.Prelude.{flat_map}
 use Rattle.std.specs.List.{sum, sum_by}
 use Rattle.std.proofs.lemmas.List.{map-append}
 use Rattle.std.proofs.lemmas.List.Sums.{sum_by-cons, sum_by-append, sum-map}
-use Rattle.sequence.proofs.Lists.{map_map, map_agree}
+use Rattle.base_library.proofs.Lists.{map_map, map_agree}
 use Rattle.tsl_terms.specs.declared.operator.UnaryOperator.TheVariants.{Globally}
 use Rattle.tsl_terms.specs.Name.{Name}
 use Rattle.tsl_terms.specs.FormulaTree.{FormulaTree, unary, formulas_of}
@@ -14,11 +14,11 @@ use Rattle.tsl_terms.specs.SpecTree.{SpecTree, conjunction_of, assumed, guarante
 use Rattle.spec_syntax.specs.declared.syntax.Part.{Part}
 use Rattle.spec_syntax.specs.declared.syntax.Part.TheVariants.{AssumeFirst, AssumeAlways, GuaranteeFirst, GuaranteeAlways}
 use Rattle.spec_syntax.specs.Syntax.{FormulaSyntax, SectionSyntax, Definition}
-use Rattle.named_formulas.specs.DefinitionView.{named_in}
-use Rattle.named_formulas.specs.Expansion.{expanded}
-use Rattle.named_formulas.specs.SectionExpansion.{expanded_sections}
-use Rattle.named_formulas.specs.Folds.{fold, node_counts}
-use Rattle.named_formulas.proofs.FoldLaws.{number_of_expansion}
+use Rattle.definition_expansion.specs.DefinitionView.{named_in}
+use Rattle.definition_expansion.specs.Expansion.{expanded}
+use Rattle.definition_expansion.specs.SectionExpansion.{expanded_sections}
+use Rattle.definition_expansion.specs.Folds.{fold, node_counts}
+use Rattle.definition_expansion.proofs.FoldLaws.{number_of_expansion}
 use Rattle.tsl_reader.specs.Naming.{formulas_of_part}
 use Rattle.tsl_reader.specs.Numbering.{formulas_if}
 use Rattle.tsl_reader.specs.Expanding.{replacing_in, nodes_of_expansion, nodes_of_sections}

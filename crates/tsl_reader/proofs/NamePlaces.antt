@@ -7,14 +7,14 @@ use Rattle.std.proofs.lemmas.Bool.Decides.{nat_tests}
 use Rattle.std.proofs.lemmas.Grind.{common_steps}
 use Rattle.std.proofs.lemmas.Iterator.Adapters.{position_from-zero}
 use Rattle.std.proofs.lemmas.List.{length-map}
-use Rattle.sequence.proofs.Options.{none_is}
-use Rattle.sequence.proofs.Places.{slice_get_some}
+use Rattle.base_library.proofs.Options.{none_is}
+use Rattle.base_library.proofs.Places.{slice_get_some}
 use Rattle.tsl_text.specs.declared.Token.{Token}
 use Rattle.tsl_text.specs.Lexeme.{token_text}
 use Rattle.spec_syntax.specs.Syntax.{Terminal, Declaration}
-use Rattle.declared_names.specs.Occurrences.{Occurrence}
-use Rattle.declared_names.specs.WellDeclared.{names_in}
-use Rattle.declared_names.proofs.NameTests.{any_from}
+use Rattle.name_resolution.specs.Occurrences.{Occurrence}
+use Rattle.name_resolution.specs.WellDeclared.{names_in}
+use Rattle.name_resolution.proofs.NameTests.{any_from}
 use Rattle.tsl_reader.specs.Spells.{Derives, name_tokens}
 use Rattle.tsl_reader.proofs.UsePlaces.{texts_of_names}
 

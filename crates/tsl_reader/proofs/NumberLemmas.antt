@@ -6,7 +6,7 @@ use Rattle.std.proofs.Common.{append_assoc, arith}
 use Rattle.std.proofs.lemmas.Grind.{common_steps}
 use Rattle.std.proofs.lemmas.List.{append-nil, drop_more, drop_all}
 use Rattle.std.specs.Option.{is_some}
-use Rattle.sequence.proofs.Lists.{with_front}
+use Rattle.base_library.proofs.Lists.{with_front}
 use Rattle.tsl_terms.specs.declared.term.Term.{Term}
 use Rattle.tsl_terms.specs.declared.formula.Formula.{Formula}
 use Rattle.tsl_terms.specs.FormulaTree.{FormulaTree, FormulaTrees, no_formulas, more_formulas, formulas_in as members_in, formulas_of}

@@ -4,10 +4,10 @@ use Rattle.std.proofs.lemmas.Bool.{cases_lt}
 use Rattle.std.proofs.lemmas.List.{map-append, append-nil}
 use Rattle.std.proofs.lemmas.Option.{same_Some}
 use Rattle.std.specs.Prelude.{None, Err, slice_get, position}
-use Rattle.sequence.proofs.Causes.{Causes, after, and_then}
-use Rattle.sequence.proofs.FirstStops.{one_stop}
-use Rattle.sequence.proofs.Options.{none_never_some}
-use Rattle.sequence.proofs.Places.{slice_get_one}
+use Rattle.base_library.proofs.Causes.{Causes, after, and_then}
+use Rattle.base_library.proofs.FirstStops.{one_stop}
+use Rattle.base_library.proofs.Options.{none_never_some}
+use Rattle.base_library.proofs.Places.{slice_get_one}
 use Rattle.tsl_text.specs.declared.Token.{Token}
 use Rattle.tsl_text.specs.declared.TextError.{TextError}
 use Rattle.tsl_text.specs.declared.TextError.TheVariants.{Byte, OpenComment, NoMemory}
@@ -18,12 +18,12 @@ use Rattle.tsl_reader.specs.declared.SpecError.{SpecError}
 use Rattle.tsl_reader.specs.declared.SpecError.TheVariants as error
 use Rattle.spec_syntax.specs.Syntax.{Terminal, Definition, Declaration}
 use Rattle.spec_syntax.specs.Texts.{terminal_at, terminals, IsText, SomeDeclarationsBegin, NoDeclarationsBegin}
-use Rattle.named_formulas.specs.Uses.{IsFirstOnCycle}
-use Rattle.declared_names.specs.Heads.{definitions_in}
-use Rattle.declared_names.specs.Occurrences.{Occurrence}
-use Rattle.declared_names.specs.Faults.{is_redefined, is_head_of, has_kind_fault, has_arity_fault}
-use Rattle.declared_names.specs.WellDeclared.{heads_of, names_in, NoneOnCycle, is_use_too_deep}
-use Rattle.declared_names.proofs.Expanded.{no_deep_use}
+use Rattle.definition_expansion.specs.Uses.{IsFirstOnCycle}
+use Rattle.name_resolution.specs.Heads.{definitions_in}
+use Rattle.name_resolution.specs.Occurrences.{Occurrence}
+use Rattle.name_resolution.specs.Faults.{is_redefined, is_head_of, has_kind_fault, has_arity_fault}
+use Rattle.name_resolution.specs.WellDeclared.{heads_of, names_in, NoneOnCycle, is_use_too_deep}
+use Rattle.name_resolution.proofs.Expanded.{no_deep_use}
 use Rattle.tsl_reader.specs.Spells.{deepest_level, Derives, IsDerived, Spells, HasFormFault, HasDeepFault, name_tokens, IsFirstName}
 use Rattle.tsl_reader.specs.Spells.{HasTooManyNodes, HasCause, SpellsNoSpec, IsOfText}
 use Rattle.tsl_reader.proofs.Causes.{one_derivation, nodes_refuse}

@@ -8,22 +8,22 @@ use Rattle.std.specs.Borrow.{Bor}
 use Rattle.std.specs.Str.{bytes_eq}
 use Rattle.std.proofs.lemmas.List.{append-nil, drop_more, map_push}
 use Rattle.std.proofs.lemmas.Bool.{and_from, or_cases, or_left, or_right}
-use Rattle.sequence.proofs.Bytes.{bytes_same}
-use Rattle.sequence.proofs.Options.{none_is}
-use Rattle.sequence.proofs.Each.{each_left, each_right, each_weaker, each_unmapped}
-use Rattle.sequence.proofs.Passes.{list_any_contained}
-use Rattle.sequence.proofs.Places.{contains_at, slice_get-behind}
+use Rattle.base_library.proofs.Bytes.{bytes_same}
+use Rattle.base_library.proofs.Options.{none_is}
+use Rattle.base_library.proofs.Each.{each_left, each_right, each_weaker, each_unmapped}
+use Rattle.base_library.proofs.Passes.{list_any_contained}
+use Rattle.base_library.proofs.Places.{contains_at, slice_get-behind}
 use Rattle.tsl_terms.specs.declared.names.NameKind.TheVariants.{Signal}
 use Rattle.tsl_terms.specs.Name.{Name, number_of, texts}
 use Rattle.tsl_terms.specs.Clashes.{added_unless_found, with_use, with_uses}
 use Rattle.spec_syntax.specs.Syntax.{Declaration, the_section, the_definition}
-use Rattle.declared_names.specs.declared.occurrence.Role.TheVariants.{Redefined, Parameter}
-use Rattle.declared_names.specs.Heads.{head_of, definitions_in, is_name, is_among}
-use Rattle.declared_names.specs.Occurrences.{of_body, formula_occurrences, section_occurrences, is_repeated, parameter_name}
-use Rattle.declared_names.specs.Occurrences.{definition_occurrences, occurrences_behind, occurrences}
-use Rattle.declared_names.specs.Faults.{is_redefined}
-use Rattle.declared_names.proofs.NameTests.{is_name_any}
-use Rattle.declared_names.proofs.WholeText.{nowhere, Stands}
+use Rattle.name_resolution.specs.declared.occurrence.Role.TheVariants.{Redefined, Parameter}
+use Rattle.name_resolution.specs.Heads.{head_of, definitions_in, is_name, is_among}
+use Rattle.name_resolution.specs.Occurrences.{of_body, formula_occurrences, section_occurrences, is_repeated, parameter_name}
+use Rattle.name_resolution.specs.Occurrences.{definition_occurrences, occurrences_behind, occurrences}
+use Rattle.name_resolution.specs.Faults.{is_redefined}
+use Rattle.name_resolution.proofs.NameTests.{is_name_any}
+use Rattle.name_resolution.proofs.WholeText.{nowhere, Stands}
 use Rattle.tsl_reader.specs.ReadText.{names_once, with_names_once}
 
 abbrev pub signal_of : List ℕ → Name

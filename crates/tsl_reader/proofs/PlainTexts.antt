@@ -7,14 +7,14 @@ use Rattle.tsl_terms.specs.Name.{Name}
 use Rattle.spec_syntax.specs.Syntax.{SectionSyntax, Declaration, the_section, the_definition}
 use Rattle.spec_syntax.specs.Syntax.{sections_among}
 use Rattle.spec_syntax.proofs.DeclarationLaws.{sections_derive}
-use Rattle.named_formulas.specs.declared.definitions.ReadDefinition.{ReadDefinition}
-use Rattle.named_formulas.specs.DefinitionView.{definition_of}
-use Rattle.declared_names.specs.Heads.{definitions_in}
-use Rattle.declared_names.specs.Occurrences.{Occurrence}
+use Rattle.definition_expansion.specs.declared.definitions.ReadDefinition.{ReadDefinition}
+use Rattle.definition_expansion.specs.DefinitionView.{definition_of}
+use Rattle.name_resolution.specs.Heads.{definitions_in}
+use Rattle.name_resolution.specs.Occurrences.{Occurrence}
 use Rattle.tsl_reader.specs.Naming.{all_uses, numbered_list, formulas_of_part}
 use Rattle.tsl_reader.specs.ReadText.{AreTextParts, AreWell, AreExpanded}
-use Rattle.declared_names.specs.Faults.{name_of}
-use Rattle.declared_names.specs.WellDeclared.{names_in}
+use Rattle.name_resolution.specs.Faults.{name_of}
+use Rattle.name_resolution.specs.WellDeclared.{names_in}
 use Rattle.tsl_reader.proofs.Counts.{names_in_text}
 use Rattle.tsl_reader.proofs.TextParts.{well_named}
 use Rattle.tsl_reader.proofs.WithoutDefinitions.{as_text, expand_alone, names_plain}

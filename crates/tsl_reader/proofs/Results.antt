@@ -2,7 +2,7 @@
 use Rattle.std.proofs.Common.{List, [], ◌∷◌}
 use Rattle.std.specs.Prelude.{flat_map}
 use Rattle.std.specs.List.{AllByRecursion}
-use Rattle.sequence.proofs.Each.{each_left, each_right}
+use Rattle.base_library.proofs.Each.{each_left, each_right}
 use Rattle.tsl_terms.specs.Name.{Name}
 use Rattle.spec_syntax.specs.Syntax.{FormulaSyntax, SectionSyntax}
 use Rattle.tsl_reader.specs.Naming.{uses, section_uses, all_uses}

@@ -13,7 +13,7 @@ use Rattle.spec_syntax.specs.declared.syntax.Part.TheVariants.{AssumeFirst, Assu
 use Rattle.tsl_reader.specs.Naming.{all_uses, named_by, names_of, numbered_list, formulas_of_part}
 use Rattle.tsl_reader.specs.Spells.{IsDerived, Spells}
 use Rattle.tsl_reader.proofs.FewNames.{kept_by_uses}
-use Rattle.sequence.proofs.Passes.{list_all_push}
+use Rattle.base_library.proofs.Passes.{list_all_push}
 use Rattle.tsl_reader.proofs.Known.{MayBeNamed, each_named}
 use Rattle.tsl_reader.proofs.ExpandedTexts.{TextExpands, usable, list_good}
 

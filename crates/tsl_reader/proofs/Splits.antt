@@ -1,11 +1,11 @@
 -- The sections and the definitions among declarations, which are taken from the last to the first of those that are turned round.
 use Rattle.std.proofs.Common.{◌≡◌, ◌<◌, ◌^◌, List, [], ◌∷◌, ◌++◌, map, length, reverse, refl, ap, sym, ◌∙◌, arith}
 use Rattle.std.proofs.lemmas.List.{append-nil, reverse-append}
-use Rattle.sequence.proofs.Lists.{written_step}
+use Rattle.base_library.proofs.Lists.{written_step}
 use Rattle.spec_syntax.specs.Syntax.{Declaration, the_section, the_definition, sections_among}
 use Rattle.spec_syntax.specs.declared.trees.ReadDeclaration.{ReadDeclaration}
 use Rattle.spec_syntax.specs.SyntaxView.{declaration_syntax}
-use Rattle.declared_names.specs.Heads.{definitions_in, head_size, heads_size}
+use Rattle.name_resolution.specs.Heads.{definitions_in, head_size, heads_size}
 use Rattle.tsl_reader.specs.ReadText.{with_names_once}
 
 -- declarations that are left, the first one at the end

@@ -3,23 +3,23 @@ use Rattle.std.proofs.Common.{◌≡◌, ℕ, get_or, ◌-◌, ◌<◌, ◌^◌,
 use Rattle.std.specs.Prelude.{Option, Some, None, option_and_then, position, slice_get}
 use Rattle.std.specs.List.{AllByRecursion}
 use Rattle.std.proofs.lemmas.Option.{none-some, get_or_from_slice_get}
-use Rattle.sequence.proofs.Places.{slice_get_mapped}
-use Rattle.sequence.proofs.Options.{found_place, no_place}
+use Rattle.base_library.proofs.Places.{slice_get_mapped}
+use Rattle.base_library.proofs.Options.{found_place, no_place}
 use Rattle.tsl_text.specs.declared.Token.{Token}
 use Rattle.tsl_terms.specs.Name.{Name, texts}
 use Rattle.spec_syntax.specs.Syntax.{SectionSyntax, Definition, Declaration, the_section, the_definition, sections_among}
 use Rattle.spec_syntax.specs.Texts.{terminals}
-use Rattle.named_formulas.specs.DefinitionView.{definition_of, AreHeads}
-use Rattle.named_formulas.specs.declared.definitions.ReadDefinition.{ReadDefinition}
-use Rattle.named_formulas.specs.Uses.{IsOrder, IsFirstOnCycle}
-use Rattle.declared_names.specs.Heads.{definitions_in, heads_in, heads_size}
-use Rattle.declared_names.specs.Occurrences.{Occurrence, occurrences}
-use Rattle.declared_names.specs.Faults.{is_redefined, is_head_of, has_kind_fault, has_arity_fault}
-use Rattle.declared_names.specs.WrittenNames.{IsBelowDepth}
-use Rattle.declared_names.specs.WellDeclared.{heads_of, names_in, AreNamedWell, is_use_too_deep}
-use Rattle.declared_names.proofs.Bounds.{heads_within, levels_below}
-use Rattle.declared_names.proofs.WholeText.{heads_stand}
-use Rattle.declared_names.proofs.HeadPlaces.{ordered_are_acyclic, head_place}
+use Rattle.definition_expansion.specs.DefinitionView.{definition_of, AreHeads}
+use Rattle.definition_expansion.specs.declared.definitions.ReadDefinition.{ReadDefinition}
+use Rattle.definition_expansion.specs.Uses.{IsOrder, IsFirstOnCycle}
+use Rattle.name_resolution.specs.Heads.{definitions_in, heads_in, heads_size}
+use Rattle.name_resolution.specs.Occurrences.{Occurrence, occurrences}
+use Rattle.name_resolution.specs.Faults.{is_redefined, is_head_of, has_kind_fault, has_arity_fault}
+use Rattle.name_resolution.specs.WrittenNames.{IsBelowDepth}
+use Rattle.name_resolution.specs.WellDeclared.{heads_of, names_in, AreNamedWell, is_use_too_deep}
+use Rattle.name_resolution.proofs.Bounds.{heads_within, levels_below}
+use Rattle.name_resolution.proofs.WholeText.{heads_stand}
+use Rattle.name_resolution.proofs.HeadPlaces.{ordered_are_acyclic, head_place}
 use Rattle.tsl_reader.specs.Spells.{deepest_level, name_tokens, IsFirstName, HasHeadFault, HasCycleFault, HasKindFault}
 use Rattle.tsl_reader.specs.Spells.{HasArityFault, HasDeepUse}
 use Rattle.tsl_reader.specs.ReadText.{AreDeclared, with_names_once, AreTextNames, AreTextParts, AreInOrder, AreWell}

@@ -9,7 +9,7 @@ use Rattle.tsl_terms.specs.FormulaTree.{more_formulas as more_members}
 use Rattle.spec_syntax.specs.Syntax.{TermSyntax, alone, applied, grouped_term, TermsSyntax, no_terms, more_terms, FormulaSyntax, truth}
 use Rattle.spec_syntax.specs.Syntax.{falsehood, bare, tested, updated, grouped, under, between, joined, FormulasSyntax, no_formulas}
 use Rattle.spec_syntax.specs.Syntax.{more_formulas}
-use Rattle.named_formulas.specs.Expansion.{ungrouped_term, ungrouped_terms, ungrouped, ungrouped_members}
+use Rattle.definition_expansion.specs.Expansion.{ungrouped_term, ungrouped_terms, ungrouped, ungrouped_members}
 use Rattle.tsl_reader.specs.Naming.{use_as, count_of_arguments, term_uses, terms_uses, uses, members_uses}
 use Rattle.tsl_reader.specs.Naming.{numbered_term, numbered_terms, test_of, numbered_formula, numbered_members}
 

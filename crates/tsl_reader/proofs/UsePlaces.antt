@@ -10,9 +10,9 @@ use Rattle.spec_syntax.specs.declared.syntax.Word.{Word}
 use Rattle.spec_syntax.specs.Syntax.{Terminal, word_of, free_unless, terminal_of, Declaration}
 use Rattle.spec_syntax.specs.Texts.{terminals}
 use Rattle.tsl_reader.specs.Spells.{deepest_level, Derives, is_free, name_tokens}
-use Rattle.declared_names.specs.WrittenNames.{free_names}
-use Rattle.declared_names.specs.WellDeclared.{heads_of, names_in}
-use Rattle.declared_names.proofs.WrittenTexts.{occurrences_texts}
+use Rattle.name_resolution.specs.WrittenNames.{free_names}
+use Rattle.name_resolution.specs.WellDeclared.{heads_of, names_in}
+use Rattle.name_resolution.proofs.WrittenTexts.{occurrences_texts}
 
 -- the terminal of a token is a name with the token's bytes, or no name
 one_token : (kind : TokenKind) (own : List ℕ) (xs : List Terminal) (names : List (List ℕ)) → free_names xs ≡ names →

@@ -3,7 +3,7 @@ use Rattle.std.proofs.Common.{List, ap, ◌∙◌}
 use Rattle.std.specs.Prelude.{option_map}
 use Rattle.std.specs.List.{AllByRecursion}
 use Rattle.std.proofs.lemmas.Option.{slice_get-map}
-use Rattle.sequence.proofs.Each.{each_at, each_from_places}
+use Rattle.base_library.proofs.Each.{each_at, each_from_places}
 use Rattle.tsl_terms.specs.Clashes.{alike_in_kind, same_arity, HasNoClash}
 use Rattle.spec_syntax.specs.Syntax.{SectionSyntax}
 use Rattle.tsl_reader.specs.Naming.{all_uses, written_uses, names_of}

@@ -2,14 +2,14 @@
 use Rattle.std.proofs.Common.{◌≡◌, List, [], ◌∷◌, refl, subst, arith}
 use Rattle.std.specs.Prelude.{flat_map}
 use Rattle.std.specs.List.{AllByRecursion}
-use Rattle.sequence.proofs.Each.{each_joined, each_map}
+use Rattle.base_library.proofs.Each.{each_joined, each_map}
 use Rattle.tsl_terms.specs.declared.names.NameKind.TheVariants.{Signal, Function, Predicate}
 use Rattle.tsl_terms.specs.Name.{Name}
 use Rattle.spec_syntax.specs.Syntax.{TermSyntax, alone, applied, grouped_term, TermsSyntax, no_terms, more_terms}
 use Rattle.spec_syntax.specs.Syntax.{FormulaSyntax, truth, falsehood, bare, tested, updated, grouped, under, between}
 use Rattle.spec_syntax.specs.Syntax.{joined, FormulasSyntax, no_formulas, more_formulas, SectionSyntax}
-use Rattle.named_formulas.specs.Occurrences.{NameUses, count_of, TermOccurs, TermsOccur, Occurs, MembersOccur}
-use Rattle.named_formulas.specs.SectionExpansion.{EachFormula}
+use Rattle.definition_expansion.specs.Occurrences.{NameUses, count_of, TermOccurs, TermsOccur, Occurs, MembersOccur}
+use Rattle.definition_expansion.specs.SectionExpansion.{EachFormula}
 use Rattle.tsl_reader.specs.Naming.{Use, count_of_arguments, term_uses, terms_uses, uses, members_uses}
 use Rattle.tsl_reader.specs.Naming.{section_uses, all_uses, written_uses}
 

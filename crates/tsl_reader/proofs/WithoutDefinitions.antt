@@ -6,8 +6,8 @@ use Rattle.std.specs.List.{AllByRecursion}
 use Rattle.std.specs.Option.{option_map_or}
 use Rattle.std.proofs.lemmas.Option.{none-some, slice_get-map}
 use Rattle.std.proofs.lemmas.List.{map-append}
-use Rattle.sequence.proofs.Each.{each_at, each_from_places, each_joined, each_flat_map}
-use Rattle.sequence.proofs.Passes.{list_all_from_places}
+use Rattle.base_library.proofs.Each.{each_at, each_from_places, each_joined, each_flat_map}
+use Rattle.base_library.proofs.Passes.{list_all_from_places}
 use Rattle.tsl_text.specs.declared.Token.{Token}
 use Rattle.tsl_text.specs.Division.{AreTokens}
 use Rattle.tsl_terms.specs.declared.names.NameKind.TheVariants.{Signal, Predicate, Function}
@@ -23,24 +23,24 @@ use Rattle.spec_syntax.specs.declared.syntax.Part.TheVariants.{AssumeFirst, Assu
 use Rattle.spec_syntax.specs.Grammar.{AreSections}
 use Rattle.spec_syntax.specs.Texts.{terminals}
 use Rattle.spec_syntax.proofs.DeclarationLaws.{sections_are_all}
-use Rattle.named_formulas.specs.DefinitionView.{named_in}
-use Rattle.named_formulas.specs.TextExpansion.{Expands, nothing, kept, used}
-use Rattle.named_formulas.specs.UseLevels.{level_of_right}
-use Rattle.named_formulas.specs.WellUsed.{as_written}
-use Rattle.declared_names.specs.declared.occurrence.Role.TheVariants.{Plain}
-use Rattle.declared_names.specs.Heads.{definitions_in, heads_in}
-use Rattle.declared_names.specs.Occurrences.{Occurrence, Scope, of_section, atom_role, occurrences, term_occurrences}
-use Rattle.declared_names.specs.Occurrences.{terms_occurrences}
-use Rattle.declared_names.specs.Occurrences.{formula_occurrences, members_occurrences, section_occurrences}
-use Rattle.declared_names.specs.Faults.{is_plain, is_redefined, name_of, plain_names, kind_fault_as, arity_fault_as}
-use Rattle.declared_names.specs.Faults.{has_kind_fault, has_arity_fault, is_unlike_first}
-use Rattle.declared_names.specs.Faults.{is_unlike_name}
-use Rattle.declared_names.specs.WellDeclared.{AreNamedWell, NoneOnCycle, heads_of, names_in}
-use Rattle.declared_names.proofs.FirstPlain.{unlike_is}
+use Rattle.definition_expansion.specs.DefinitionView.{named_in}
+use Rattle.definition_expansion.specs.TextExpansion.{Expands, nothing, kept, used}
+use Rattle.definition_expansion.specs.UseLevels.{level_of_right}
+use Rattle.definition_expansion.specs.WellUsed.{as_written}
+use Rattle.name_resolution.specs.declared.occurrence.Role.TheVariants.{Plain}
+use Rattle.name_resolution.specs.Heads.{definitions_in, heads_in}
+use Rattle.name_resolution.specs.Occurrences.{Occurrence, Scope, of_section, atom_role, occurrences, term_occurrences}
+use Rattle.name_resolution.specs.Occurrences.{terms_occurrences}
+use Rattle.name_resolution.specs.Occurrences.{formula_occurrences, members_occurrences, section_occurrences}
+use Rattle.name_resolution.specs.Faults.{is_plain, is_redefined, name_of, plain_names, kind_fault_as, arity_fault_as}
+use Rattle.name_resolution.specs.Faults.{has_kind_fault, has_arity_fault, is_unlike_first}
+use Rattle.name_resolution.specs.Faults.{is_unlike_name}
+use Rattle.name_resolution.specs.WellDeclared.{AreNamedWell, NoneOnCycle, heads_of, names_in}
+use Rattle.name_resolution.proofs.FirstPlain.{unlike_is}
 use Rattle.tsl_reader.specs.Naming.{Use, uses, term_uses, terms_uses, members_uses, section_uses, all_uses, written_uses}
 use Rattle.tsl_reader.specs.Naming.{names_of, numbered_list, formulas_of_part}
 use Rattle.tsl_reader.specs.Spells.{IsDerived, deepest_level}
-use Rattle.declared_names.proofs.EachName.{each_name}
+use Rattle.name_resolution.proofs.EachName.{each_name}
 use Rattle.tsl_reader.proofs.Known.{like_first}
 use Rattle.tsl_reader.proofs.NamePlaces.{none_there}
 use Rattle.tsl_reader.proofs.UsesStand.{count_same}

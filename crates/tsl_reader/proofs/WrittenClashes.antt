@@ -7,9 +7,9 @@ use Rattle.std.proofs.lemmas.Bool.{cases_lt, lt-ltb, eq-eqb, not-true}
 use Rattle.std.proofs.lemmas.Option.{none-some, slice_get_within, slice_get-get_or, get_or_from_slice_get, slice_get-map}
 use Rattle.std.proofs.lemmas.List.Quantifiers.{position-Some}
 use Rattle.std.proofs.lemmas.List.Sums.{position_or_len_is}
-use Rattle.sequence.proofs.Each.{each_at}
-use Rattle.sequence.proofs.Options.{none_never_some}
-use Rattle.sequence.proofs.Places.{slice_get_one, slice_get_mapped}
+use Rattle.base_library.proofs.Each.{each_at}
+use Rattle.base_library.proofs.Options.{none_never_some}
+use Rattle.base_library.proofs.Places.{slice_get_one, slice_get_mapped}
 use Rattle.tsl_text.specs.declared.Token.{Token}
 use Rattle.tsl_text.specs.Division.{AreTokens}
 use Rattle.tsl_text.proofs.OneAnswer.{one_list}
@@ -22,15 +22,15 @@ use Rattle.spec_syntax.specs.Syntax.{Terminal, SectionSyntax, Declaration}
 use Rattle.spec_syntax.specs.Grammar.{AreSections}
 use Rattle.spec_syntax.specs.Texts.{terminals}
 use Rattle.spec_syntax.proofs.DeclarationLaws.{sections_are_all}
-use Rattle.named_formulas.specs.ExpansionSizes.{number_in}
-use Rattle.named_formulas.specs.Folds.{depths}
-use Rattle.declared_names.specs.declared.occurrence.Role.TheVariants.{Plain}
-use Rattle.declared_names.specs.Occurrences.{Occurrence}
-use Rattle.declared_names.specs.Faults.{is_redefined, name_of, kind_fault_as, arity_fault_as, has_kind_fault, has_arity_fault}
-use Rattle.declared_names.specs.Faults.{is_unlike_first, is_unlike_name, is_used, passes_deepest}
-use Rattle.declared_names.specs.Heads.{definitions_in}
-use Rattle.declared_names.specs.WellDeclared.{heads_of, names_in, NoneOnCycle, is_use_too_deep}
-use Rattle.declared_names.proofs.WholeText.{nowhere}
+use Rattle.definition_expansion.specs.ExpansionSizes.{number_in}
+use Rattle.definition_expansion.specs.Folds.{depths}
+use Rattle.name_resolution.specs.declared.occurrence.Role.TheVariants.{Plain}
+use Rattle.name_resolution.specs.Occurrences.{Occurrence}
+use Rattle.name_resolution.specs.Faults.{is_redefined, name_of, kind_fault_as, arity_fault_as, has_kind_fault, has_arity_fault}
+use Rattle.name_resolution.specs.Faults.{is_unlike_first, is_unlike_name, is_used, passes_deepest}
+use Rattle.name_resolution.specs.Heads.{definitions_in}
+use Rattle.name_resolution.specs.WellDeclared.{heads_of, names_in, NoneOnCycle, is_use_too_deep}
+use Rattle.name_resolution.proofs.WholeText.{nowhere}
 use Rattle.tsl_reader.specs.Naming.{written_uses}
 use Rattle.tsl_reader.specs.Spells.{deepest_level, Derives, IsFirstName, HasHeadFault, HasCycleFault, HasKindFault, HasArityFault}
 use Rattle.tsl_reader.specs.Spells.{HasDeepUse}

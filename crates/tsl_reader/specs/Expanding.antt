@@ -3,10 +3,10 @@
 use Rattle.std.specs.Prelude.{ℕ, List, length, map, flat_map}
 use Rattle.std.specs.List.{sum_by}
 use Rattle.spec_syntax.specs.Syntax.{FormulaSyntax, SectionSyntax, Definition}
-use Rattle.named_formulas.specs.DefinitionView.{named_in}
-use Rattle.named_formulas.specs.Expansion.{Replacing, expansion_within, expanded, ungrouped}
-use Rattle.named_formulas.specs.Folds.{fold_by, node_counts}
-use Rattle.named_formulas.specs.ExpansionSizes.{number_in}
+use Rattle.definition_expansion.specs.DefinitionView.{named_in}
+use Rattle.definition_expansion.specs.Expansion.{Replacing, expansion_within, expanded, ungrouped}
+use Rattle.definition_expansion.specs.Folds.{fold_by, node_counts}
+use Rattle.definition_expansion.specs.ExpansionSizes.{number_in}
 
 -- through as many definitions one within another as there are
 abbrev pub replacing_in : List Definition → Replacing

@@ -8,13 +8,13 @@ use Rattle.tsl_terms.specs.Clashes.{first_uses}
 use Rattle.spec_syntax.specs.declared.syntax.Part.{Part}
 use Rattle.spec_syntax.specs.Syntax.{Terminal, SectionSyntax, Definition, Declaration, sections_among}
 use Rattle.spec_syntax.specs.Grammar.{AreSections}
-use Rattle.named_formulas.specs.DefinitionView.{named_in}
-use Rattle.named_formulas.specs.TextExpansion.{Expands}
-use Rattle.named_formulas.specs.WellUsed.{as_written}
-use Rattle.declared_names.specs.Heads.{definitions_in}
-use Rattle.declared_names.specs.Occurrences.{Occurrence}
-use Rattle.declared_names.specs.Faults.{is_redefined, has_kind_fault, has_arity_fault}
-use Rattle.declared_names.specs.WellDeclared.{heads_of, names_in, NoneOnCycle, AreNamedWell}
+use Rattle.definition_expansion.specs.DefinitionView.{named_in}
+use Rattle.definition_expansion.specs.TextExpansion.{Expands}
+use Rattle.definition_expansion.specs.WellUsed.{as_written}
+use Rattle.name_resolution.specs.Heads.{definitions_in}
+use Rattle.name_resolution.specs.Occurrences.{Occurrence}
+use Rattle.name_resolution.specs.Faults.{is_redefined, has_kind_fault, has_arity_fault}
+use Rattle.name_resolution.specs.WellDeclared.{heads_of, names_in, NoneOnCycle, AreNamedWell}
 use Rattle.tsl_reader.specs.Naming.{all_uses, numbered_list, formulas_of_part}
 use Rattle.tsl_reader.specs.Spells.{deepest_level, Derives}
 

@@ -15,14 +15,14 @@ use Rattle.spec_syntax.specs.declared.syntax.Part.TheVariants.{AssumeFirst, Assu
 use Rattle.spec_syntax.specs.Syntax.{Terminal, free, word, mark, SectionSyntax, Declaration}
 use Rattle.spec_syntax.specs.Grammar.{AreSections, AreDeclarations}
 use Rattle.spec_syntax.specs.Texts.{terminal_at, terminals, SomeDeclarationsBegin, NoDeclarationsBegin, AreNoDeclarations}
-use Rattle.named_formulas.specs.DefinitionView.{named_in}
-use Rattle.named_formulas.specs.TextExpansion.{Expands}
-use Rattle.named_formulas.specs.WellUsed.{as_written}
-use Rattle.named_formulas.specs.Uses.{IsFirstOnCycle}
-use Rattle.declared_names.specs.Heads.{definitions_in}
-use Rattle.declared_names.specs.Occurrences.{Occurrence}
-use Rattle.declared_names.specs.Faults.{is_redefined, is_head_of, has_kind_fault, has_arity_fault}
-use Rattle.declared_names.specs.WellDeclared.{heads_of, names_in, NoneOnCycle, AreNamedWell, is_use_too_deep}
+use Rattle.definition_expansion.specs.DefinitionView.{named_in}
+use Rattle.definition_expansion.specs.TextExpansion.{Expands}
+use Rattle.definition_expansion.specs.WellUsed.{as_written}
+use Rattle.definition_expansion.specs.Uses.{IsFirstOnCycle}
+use Rattle.name_resolution.specs.Heads.{definitions_in}
+use Rattle.name_resolution.specs.Occurrences.{Occurrence}
+use Rattle.name_resolution.specs.Faults.{is_redefined, is_head_of, has_kind_fault, has_arity_fault}
+use Rattle.name_resolution.specs.WellDeclared.{heads_of, names_in, NoneOnCycle, AreNamedWell, is_use_too_deep}
 use Rattle.tsl_reader.specs.Naming.{names_of, numbered_list, formulas_of_part}
 
 -- the deepest level

@@ -5,9 +5,9 @@ ghost use Rattle.std.specs.Prelude.{IfOk, IfErr};
 ghost use Rattle.tsl_text.specs.Division.{IsTokenOf};
 ghost use Rattle.spec_syntax.specs.Syntax.{Definition};
 ghost use Rattle.spec_syntax.specs.SyntaxView.{formula_syntax, section_syntax};
-ghost use Rattle.named_formulas.specs.DefinitionView.{definition_of, AreHeads};
-ghost use Rattle.named_formulas.specs.ExpansionSizes.{AreSizes};
-ghost use Rattle.declared_names.specs.OccurrenceView.{occurrence_of};
+ghost use Rattle.definition_expansion.specs.DefinitionView.{definition_of, AreHeads};
+ghost use Rattle.definition_expansion.specs.ExpansionSizes.{AreSizes};
+ghost use Rattle.name_resolution.specs.OccurrenceView.{occurrence_of};
 ghost use Rattle.tsl_reader.specs.Spells.{HasCause};
 ghost use Rattle.tsl_reader.specs.ReadText.{AreTextParts, AreExpanded};
 ghost use Rattle.tsl_reader.specs.Expanding.{bare_expansion, expanded_bare};
@@ -15,8 +15,8 @@ ghost use Rattle.tsl_reader.specs.Expanding.{nodes_of_formulas, nodes_of_section
 
 use crate::text_names::{TextNames, check_names, check_uses, order_of};
 use crate::{MOST_NODES, SpecError};
-use named_formulas::{NODES_STOP, ReadDefinition, Size, expansion, expansion_size, sizes};
-use sequence::NoMemory;
+use definition_expansion::{NODES_STOP, ReadDefinition, Size, expansion, expansion_size, sizes};
+use base_library::NoMemory;
 use spec_syntax::{ReadFormula, ReadSection};
 use std::alloc::Global;
 use tsl_terms::Names;

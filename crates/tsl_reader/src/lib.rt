@@ -5,7 +5,7 @@
 //! - The grammar, as a relation by cases on whole lists of terminals, and the reading of terminals as
 //!   sections and definitions stand in the crate `spec_syntax`.
 //! - Which name of the text is what, and the first that is wrong where it stands, is told by the crate
-//!   `declared_names`; what a text with definitions expands to, by `named_formulas`. The size of an
+//!   `name_resolution`; what a text with definitions expands to, by `definition_expansion`. The size of an
 //!   expansion is computed before it is made.
 //! - The names of the specification (`specs/Naming.antt`) are a last pass over the expanded sections: each
 //!   use that stands in them, and the names by first appearance, where `?` comes directly after the signal
@@ -20,7 +20,7 @@ ghost use Rattle.tsl_terms.specs.SpecView.{spec_tree};
 ghost use Rattle.tsl_terms.specs.WellFormed.{SpecFits};
 ghost use Rattle.tsl_reader.specs.Spells.{Spells, HasCause, SpellsNoSpec};
 
-use sequence::NoMemory;
+use base_library::NoMemory;
 use stages::{derived_spec, has_few_nodes};
 use std::alloc::{AllocFailed, Global};
 use thiserror::Error;

@@ -6,7 +6,7 @@ ghost use Rattle.tsl_reader.specs.Naming.{named_by};
 ghost use Rattle.tsl_reader.specs.UseView.{read_use};
 
 use crate::uses::ReadUse;
-use sequence::NoMemory;
+use base_library::NoMemory;
 use std::alloc::Global;
 use tsl_terms::{NameKind, NameUse};
 

@@ -14,7 +14,7 @@ ghost use Rattle.tsl_reader.specs.Numbering.{formulas_after, formulas_if};
 ghost use Rattle.spec_syntax.specs.SyntaxView.{term_syntax, terms_syntax, formula_syntax};
 ghost use Rattle.spec_syntax.specs.SyntaxView.{formulas_syntax, section_syntax};
 
-use sequence::NoMemory;
+use base_library::NoMemory;
 use spec_syntax::{Part, ReadFormula, ReadFormulas, ReadSection, ReadTerm, ReadTerms};
 use std::alloc::Global;
 use tsl_terms::{

@@ -5,12 +5,12 @@ ghost use Rattle.tsl_terms.specs.Clashes.{with_use};
 ghost use Rattle.tsl_terms.specs.declared.names.NameKind.TheVariants.{Signal};
 ghost use Rattle.spec_syntax.specs.Syntax.{sections_among};
 ghost use Rattle.spec_syntax.specs.SyntaxView.{section_syntax, equation_syntax, declaration_syntax};
-ghost use Rattle.named_formulas.specs.DefinitionView.{definition_of};
-ghost use Rattle.declared_names.specs.Heads.{definitions_in, head_size, heads_size};
+ghost use Rattle.definition_expansion.specs.DefinitionView.{definition_of};
+ghost use Rattle.name_resolution.specs.Heads.{definitions_in, head_size, heads_size};
 ghost use Rattle.tsl_reader.specs.ReadText.{names_once, with_names_once};
 
-use named_formulas::ReadDefinition;
-use sequence::NoMemory;
+use definition_expansion::ReadDefinition;
+use base_library::NoMemory;
 use spec_syntax::{ReadDeclaration, ReadEquation, ReadSection};
 use std::alloc::Global;
 use tsl_terms::{NameKind, Names};

@@ -5,22 +5,22 @@ ghost use Rattle.std.specs.Prelude.{position, slice_get, option_and_then, IfOk, 
 ghost use Rattle.tsl_text.specs.Division.{IsTokenOf};
 ghost use Rattle.spec_syntax.specs.Syntax.{SectionSyntax, Definition};
 ghost use Rattle.spec_syntax.specs.Texts.{terminal_at};
-ghost use Rattle.named_formulas.specs.DefinitionView.{definition_of};
-ghost use Rattle.named_formulas.specs.Uses.{IsOrder, IsFirstOnCycle};
-ghost use Rattle.named_formulas.specs.ExpansionSizes.{AreSizes};
-ghost use Rattle.declared_names.specs.Faults.{is_redefined, has_kind_fault, has_arity_fault};
-ghost use Rattle.declared_names.specs.OccurrenceView.{occurrence_of};
-ghost use Rattle.declared_names.specs.WellDeclared.{is_use_too_deep};
+ghost use Rattle.definition_expansion.specs.DefinitionView.{definition_of};
+ghost use Rattle.definition_expansion.specs.Uses.{IsOrder, IsFirstOnCycle};
+ghost use Rattle.definition_expansion.specs.ExpansionSizes.{AreSizes};
+ghost use Rattle.name_resolution.specs.Faults.{is_redefined, has_kind_fault, has_arity_fault};
+ghost use Rattle.name_resolution.specs.OccurrenceView.{occurrence_of};
+ghost use Rattle.name_resolution.specs.WellDeclared.{is_use_too_deep};
 ghost use Rattle.tsl_reader.specs.Spells.{is_free, name_tokens, HasCause};
 ghost use Rattle.tsl_reader.specs.ReadText.{AreTextNames, AreTextParts, AreInOrder, AreWell};
 
 use crate::SpecError;
-use declared_names::{
+use name_resolution::{
     ReadOccurrence, first_arity_fault, first_deep_use, first_head_fault, first_kind_fault,
     head_place, plain_names,
 };
-use named_formulas::{OrderFault, ReadDefinition, Size, order};
-use sequence::NoMemory;
+use definition_expansion::{OrderFault, ReadDefinition, Size, order};
+use base_library::NoMemory;
 use spec_syntax::{Terminal, terminal_at};
 use std::alloc::Global;
 use tsl_terms::Names;

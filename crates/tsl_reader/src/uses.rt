@@ -8,7 +8,7 @@ ghost use Rattle.spec_syntax.specs.SyntaxView.{term_syntax, terms_syntax, formul
 ghost use Rattle.spec_syntax.specs.SyntaxView.{formulas_syntax, section_syntax};
 ghost use Rattle.tsl_reader.specs.UseView.{read_use};
 
-use sequence::NoMemory;
+use base_library::NoMemory;
 use spec_syntax::{ReadFormula, ReadFormulas, ReadSection, ReadTerm, ReadTerms};
 use std::alloc::Global;
 use tsl_terms::{NameKind, NameUse};

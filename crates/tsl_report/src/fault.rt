@@ -4,7 +4,7 @@ ghost use Rattle.std.specs.Prelude.{◌≡◌, ◌++◌, OnOk, IfOk, codes, deci
 ghost use Rattle.tsl_report.specs.FaultText.{fault_text, fault_line, place_text, place_fault, token_fault, name_fault, part_text};
 ghost use Rattle.tsl_report.specs.FaultText.{range_fault, data_text, head_text, rule_text, limit_text};
 
-use sequence::{NoMemory, Sequence};
+use base_library::{NoMemory, Sequence};
 use std::alloc::Global;
 use tsl_text::{Place, put_bytes, put_number};
 

@@ -5,9 +5,9 @@ use Rattle.std.proofs.lemmas.List.{take_more, take_all}
 use Rattle.std.proofs.lemmas.Grind.{flat_map-append}
 use Rattle.std.proofs.lemmas.List.Folds.{list_any-append}
 use Rattle.std.proofs.Math.Bool.{or-false}
-use Rattle.sequence.specs.Kept.{with_new}
+use Rattle.base_library.specs.Kept.{with_new}
 use Rattle.tsl_terms.specs.internal.Marked.{marked}
-use Rattle.sequence.proofs.Kept.{with_new-append}
+use Rattle.base_library.proofs.Kept.{with_new-append}
 use Rattle.tsl_terms.proofs.MarkLemmas.{mark_two, mark_same}
 
 module _ {A B : Type 0} (same : B → B → Bool) (f : A → List B) (xs : List A) (i : ℕ) where

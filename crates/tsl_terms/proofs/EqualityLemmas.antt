@@ -9,9 +9,9 @@ use Rattle.std.proofs.lemmas.Bool.{and_parts, and_from, ltb-false}
 use Rattle.std.proofs.lemmas.Option.{none-some, same_Some, slice_get_within, slice_get-get_or, slice_get-map, get_or_from_slice_get}
 use Rattle.std.proofs.lemmas.List.Quantifiers.{position-Some}
 use Rattle.std.proofs.lemmas.List.Sums.{fails_before_first}
-use Rattle.sequence.proofs.Options.{some_passes}
-use Rattle.sequence.proofs.Places.{slice_get_mapped}
-use Rattle.sequence.proofs.Bytes.{same_bytes, bytes_same}
+use Rattle.base_library.proofs.Options.{some_passes}
+use Rattle.base_library.proofs.Places.{slice_get_mapped}
+use Rattle.base_library.proofs.Bytes.{same_bytes, bytes_same}
 use Rattle.tsl_terms.specs.declared.names.NameKind.TheVariants.{Predicate}
 use Rattle.tsl_terms.specs.Name.{Name, same_kind, is_name, texts, number_of, AreDistinct}
 use Rattle.tsl_terms.specs.Equality.{names_equality, is_equality, equality_in}

@@ -40,8 +40,8 @@ use Rattle.std.proofs.lemmas.Bool.Decides.{nat_tests}
 use Rattle.std.proofs.lemmas.Grind.{common_steps}
 use Rattle.std.proofs.lemmas.List.{drop_more, length-map}
 use Rattle.std.proofs.lemmas.Option.{slice_get-map, slice_get-get_or, slice_get_within}
-use Rattle.sequence.proofs.Bytes.{bytes_same, same_bytes}
-use Rattle.sequence.proofs.Places.{slice_get_one, slice_get_push}
+use Rattle.base_library.proofs.Bytes.{bytes_same, same_bytes}
+use Rattle.base_library.proofs.Places.{slice_get_one, slice_get_push}
 use Rattle.tsl_terms.specs.declared.clash.NameUse.{NameUse}
 use Rattle.tsl_terms.specs.Name.{Name, number_of, texts, AreDistinct}
 use Rattle.tsl_terms.specs.Clashes.{name_use, added_unless_found, with_use, with_uses, first_uses, IsClash}

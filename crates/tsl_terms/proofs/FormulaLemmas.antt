@@ -1,7 +1,7 @@
 -- Lists of formulas that are built and read member by member.
 use Rattle.std.proofs.Common.{◌≡◌, List, [], ◌∷◌, ◌++◌, map, refl, ap}
-use Rattle.sequence.proofs.Lists.{with_front}
-pub use Rattle.sequence.proofs.Lists.{with_front_push, map_push_front}
+use Rattle.base_library.proofs.Lists.{with_front}
+pub use Rattle.base_library.proofs.Lists.{with_front_push, map_push_front}
 use Rattle.std.proofs.lemmas.List.{append-nil}
 use Rattle.tsl_terms.specs.declared.formula.Formula.{Formula}
 use Rattle.tsl_terms.specs.FormulaTree.{FormulaTree, FormulaTrees, no_formulas, more_formulas, formulas_in, formulas_of, formula_tree}

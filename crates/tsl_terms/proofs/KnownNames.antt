@@ -2,7 +2,7 @@
 use Rattle.std.proofs.Common.{◌≡◌, ℕ, ◌==◌, true, List, ap, sym, ◌∙◌}
 use Rattle.std.specs.Prelude.{Some, slice_get, option_and_then}
 use Rattle.std.specs.Option.{is_some}
-use Rattle.sequence.proofs.Options.{there_before}
+use Rattle.base_library.proofs.Options.{there_before}
 use Rattle.tsl_terms.specs.Name.{Name, number_of, same_kind}
 use Rattle.tsl_terms.specs.Clashes.{alike_in_kind, same_arity}
 use Rattle.tsl_terms.specs.internal.FirstUse.{name_with}

@@ -2,8 +2,8 @@
 -- to with fewer, with further free terms in place of leaves; and classes are kept where free terms stand in place of leaves.
 use Rattle.std.proofs.Common.{◌≡◌, ◌∙◌, ℕ, zero, suc, Bool, true, Option, Some, None, List, [], ◌∷◌, refl, sym, ap, subst, flat_map}
 use Rattle.std.specs.List.{AllByRecursion, Contains}
-use Rattle.sequence.proofs.Each.{each_left, each_right, each_contained, each_flat_map, each_weaker, each_from_places}
-use Rattle.sequence.proofs.Places.{contains_at}
+use Rattle.base_library.proofs.Each.{each_left, each_right, each_contained, each_flat_map, each_weaker, each_from_places}
+use Rattle.base_library.proofs.Places.{contains_at}
 use Rattle.tsl_terms.specs.TermTree.{TermTree, signal, apply, TermTrees, no_terms, more_terms, ProbeTree}
 use Rattle.tsl_terms.specs.WindowTree.{ListedTree, EquatedTree, WindowTree}
 use Rattle.tsl_terms.specs.FreeTree.{FreeTree, leaf_at, applied, FreeTrees, no_free, more_free}

@@ -44,7 +44,7 @@ use Rattle.std.proofs.lemmas.List.{map_push}
 use Rattle.std.proofs.lemmas.Option.{none-some, same_Some}
 use Rattle.std.proofs.lemmas.Bool.{ltb-false, le-ltb}
 use Rattle.indexmap.specs.IndexMap.{insert_entry}
-use Rattle.sequence.proofs.Bytes.{same_bytes, bytes_same}
+use Rattle.base_library.proofs.Bytes.{same_bytes, bytes_same}
 use Rattle.tsl_terms.specs.declared.names.NameKind.{NameKind}
 use Rattle.tsl_terms.specs.declared.names.Meaning.{Meaning}
 use Rattle.tsl_terms.specs.Name.{Name, texts, number_of, AreDistinct}

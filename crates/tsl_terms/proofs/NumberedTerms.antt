@@ -1,7 +1,7 @@
 -- Lists of terms that get numbers member by member.
 use Rattle.std.proofs.Common.{◌≡◌, List, [], ◌∷◌, ◌++◌, map, refl, ap, sym, ◌∙◌}
 use Rattle.std.specs.Prelude.{Option, Some, None, option_map}
-use Rattle.sequence.proofs.Lists.{with_front, with_front_push}
+use Rattle.base_library.proofs.Lists.{with_front, with_front_push}
 use Rattle.tsl_terms.specs.TermTree.{TermTree, TermTrees, no_terms, more_terms, terms_of}
 use Rattle.tsl_terms.proofs.TermLemmas.{with_front_none}
 

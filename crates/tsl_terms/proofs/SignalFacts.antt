@@ -32,10 +32,10 @@ use Rattle.std.specs.List.{list_all, filter}
 use Rattle.std.proofs.lemmas.List.Folds.{list_any-append}
 use Rattle.std.proofs.lemmas.Bool.{and_parts, and_from, or_cases, or_left, or_right, not-true, cases_Bool}
 use Rattle.std.proofs.Math.Bool.{and-false}
-use Rattle.sequence.specs.Numbers.{is_among, IsDistinct, numbers_from}
-use Rattle.sequence.proofs.Booleans.{eqb_self}
-use Rattle.sequence.proofs.Numbers.{among_filter, among_numbers, apart_numbers, apart_filter, apart_append, distinct_from_apart}
-use Rattle.sequence.proofs.Passes.{within_from_test, list_all_from_contained, passes_contained, list_any_contained}
+use Rattle.base_library.specs.Numbers.{is_among, IsDistinct, numbers_from}
+use Rattle.base_library.proofs.Booleans.{eqb_self}
+use Rattle.base_library.proofs.Numbers.{among_filter, among_numbers, apart_numbers, apart_filter, apart_append, distinct_from_apart}
+use Rattle.base_library.proofs.Passes.{within_from_test, list_all_from_contained, passes_contained, list_any_contained}
 use Rattle.tsl_terms.specs.declared.names.NameKind.TheVariants.{Signal}
 use Rattle.tsl_terms.specs.Name.{Name, is_name}
 use Rattle.tsl_terms.specs.TermTree.{TermTree, signal, apply, TermTrees, no_terms, more_terms}

@@ -5,7 +5,7 @@ use Rattle.std.proofs.lemmas.Grind.{flat_map-append}
 use Rattle.std.proofs.lemmas.List.Folds.{list_all-append, list_all-map}
 use Rattle.std.proofs.lemmas.Bool.{and_parts, and_from}
 use Rattle.std.proofs.Math.Bool.{and-false}
-use Rattle.sequence.proofs.Passes.{list_all_weaker}
+use Rattle.base_library.proofs.Passes.{list_all_weaker}
 use Rattle.tsl_terms.specs.declared.operator.UnaryOperator.TheVariants.{Globally}
 use Rattle.tsl_terms.specs.declared.operator.BinaryOperator.{BinaryOperator}
 use Rattle.tsl_terms.specs.declared.operator.ManyOperator.{ManyOperator}

@@ -3,7 +3,7 @@
 -- the underapproximation.
 use Rattle.std.specs.Prelude.{◌≡◌, ℕ, true, List, [], Option, Some, None}
 use Rattle.std.specs.List.{AllByRecursion}
-use Rattle.sequence.specs.Numbers.{is_among}
+use Rattle.base_library.specs.Numbers.{is_among}
 use Rattle.tsl_terms.specs.TermTree.{TermTree, ProbeTree, count_of_terms}
 use Rattle.tsl_terms.specs.WindowTree.{ListedTree, WindowTree}
 use Rattle.tsl_terms.specs.Unfolding.{all_unfolded}

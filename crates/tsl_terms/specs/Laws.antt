@@ -1,7 +1,7 @@
 -- What holds of inputs, cells and outputs, of the atoms of a whole formula, and of what it is made of: the statements of laws.
 use Rattle.std.specs.Prelude.{◌≡◌, ℕ, ◌<◌, List, ◌++◌, flat_map, Some, slice_get, IsTrue}
 use Rattle.std.specs.List.{list_all}
-use Rattle.sequence.specs.Numbers.{IsDistinct}
+use Rattle.base_library.specs.Numbers.{IsDistinct}
 use Rattle.tsl_terms.specs.Atoms.{atoms}
 use Rattle.tsl_terms.specs.OnlyThese.{formula_reads_only, formula_updates_only}
 use Rattle.tsl_terms.specs.SpecTree.{SpecTree, all_formulas, whole_formula}

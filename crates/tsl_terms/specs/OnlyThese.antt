@@ -1,7 +1,7 @@
 -- Terms and formulas that read or update only the signals of a list.
 use Rattle.std.specs.Prelude.{ℕ, Bool, true, ◌&&◌, List}
 use Rattle.std.specs.List.{list_all}
-use Rattle.sequence.specs.Numbers.{is_among}
+use Rattle.base_library.specs.Numbers.{is_among}
 use Rattle.tsl_terms.specs.TermTree.{TermTree, signal, apply, TermTrees, no_terms, more_terms}
 use Rattle.tsl_terms.specs.FormulaTree.{Atom, test, update, FormulaTree}
 use Rattle.tsl_terms.specs.Atoms.{atoms}

@@ -3,7 +3,7 @@
 -- (CAV 2019), inputs, outputs and cells. Which signal is which is this project's own rule.
 use Rattle.std.specs.Prelude.{ℕ, Bool, false, not, ◌&&◌, ◌||◌, ◌==◌, List, [], ◌∷◌, ◌++◌, length, filter, flat_map, if◌then◌else◌}
 use Rattle.std.specs.List.{list_any}
-use Rattle.sequence.specs.Numbers.{numbers_from}
+use Rattle.base_library.specs.Numbers.{numbers_from}
 use Rattle.tsl_terms.specs.declared.names.NameKind.TheVariants.{Signal}
 use Rattle.tsl_terms.specs.Name.{is_name}
 use Rattle.tsl_terms.specs.TermTree.{TermTree, signal, apply, TermTrees, no_terms, more_terms}

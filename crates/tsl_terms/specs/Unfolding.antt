@@ -3,7 +3,7 @@
 -- Source: Finkbeiner, Klein, Piskac, Santolucito: Temporal Stream Logic: Synthesis Beyond the Bools (CAV 2019), the refinement of
 -- the underapproximation.
 use Rattle.std.specs.Prelude.{ℕ, zero, suc, ◌==◌, ◌&&◌, List, Option, Some, None, find, option_map, if◌then◌else◌}
-use Rattle.sequence.specs.Numbers.{is_among}
+use Rattle.base_library.specs.Numbers.{is_among}
 use Rattle.tsl_terms.specs.TermTree.{TermTree, signal, apply, TermTrees, no_terms, more_terms}
 use Rattle.tsl_terms.specs.WindowTree.{ListedTree}
 use Rattle.tsl_terms.specs.FreeTree.{FreeTree, leaf_at, applied, FreeTrees, no_free, more_free}

@@ -10,7 +10,7 @@ ghost use Rattle.tsl_terms.specs.SpecView.{spec_tree};
 use crate::formula::{Formula, FormulaList};
 use crate::spec::Spec;
 use crate::term::{Probe, Term};
-use sequence::NoMemory;
+use base_library::NoMemory;
 use std::alloc::Global;
 
 /// What a formula is made of, lent from it.

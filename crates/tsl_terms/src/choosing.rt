@@ -7,14 +7,14 @@ ghost use Rattle.tsl_terms.specs.AtomView.{atom_tree};
 ghost use Rattle.tsl_terms.specs.SameTree.{same_tree};
 ghost use Rattle.tsl_terms.specs.SpecView.{spec_tree};
 ghost use Rattle.tsl_terms.specs.Signals.{term_reads, some_term_reads, atom_reads, atom_updates, term_for, choices_of};
-ghost use Rattle.sequence.specs.Kept.{with_new};
+ghost use Rattle.base_library.specs.Kept.{with_new};
 
 use crate::atom::{AtomRef, atoms_of_spec};
 use crate::copy::copy_term;
 use crate::same::same_term;
 use crate::spec::Spec;
 use crate::term::{Term, TermList};
-use sequence::NoMemory;
+use base_library::NoMemory;
 use std::alloc::Global;
 
 /// The choices of a cell or an output: the terms that its updates name, by first appearance in the

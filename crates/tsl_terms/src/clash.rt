@@ -6,7 +6,7 @@ ghost use Rattle.tsl_terms.specs.Clashes.{name_use, with_use, first_uses, alike_
 ghost use Rattle.tsl_terms.specs.internal.FirstUse.{differs_from};
 
 use crate::names::{NameKind, Names, same_kind};
-use sequence::NoMemory;
+use base_library::NoMemory;
 use std::alloc::Global;
 
 /// A use of a name, as the name that it would be.

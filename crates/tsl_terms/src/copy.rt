@@ -8,7 +8,7 @@ ghost use Rattle.tsl_terms.specs.WindowTree.{listed_tree, equated_tree, window_t
 use crate::formula::{Formula, FormulaList};
 use crate::term::{Probe, Term, TermList};
 use crate::window::{Equated, Listed, Window};
-use sequence::{NoMemory, Sequence};
+use base_library::{NoMemory, Sequence};
 use std::alloc::Global;
 
 /// An equal term. An `Err` says that memory ran out.

@@ -4,7 +4,7 @@ ghost use Rattle.std.specs.Prelude.{◌≡◌, map, IfOk};
 ghost use Rattle.tsl_terms.specs.FormulaTree.{formula_tree, formula_trees, formulas_of};
 
 use crate::term::{Probe, Term};
-use sequence::NoMemory;
+use base_library::NoMemory;
 use std::alloc::Global;
 
 /// A formula of Temporal Stream Logic.

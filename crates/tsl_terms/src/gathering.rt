@@ -7,14 +7,14 @@ ghost use Rattle.tsl_terms.specs.AtomView.{atom_tree};
 ghost use Rattle.tsl_terms.specs.SameTree.{same_probe_tree};
 ghost use Rattle.tsl_terms.specs.SpecView.{spec_tree};
 ghost use Rattle.tsl_terms.specs.Predicates.{probe_of, predicates_of};
-ghost use Rattle.sequence.specs.Kept.{with_new};
+ghost use Rattle.base_library.specs.Kept.{with_new};
 
 use crate::atom::{AtomRef, atoms_of_spec};
 use crate::copy::copy_probe;
 use crate::same::same_probe;
 use crate::spec::Spec;
 use crate::term::Probe;
-use sequence::NoMemory;
+use base_library::NoMemory;
 use std::alloc::Global;
 
 /// The predicate terms of a specification's whole formula, by first appearance from the left, without

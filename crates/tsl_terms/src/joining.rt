@@ -9,7 +9,7 @@ ghost use Rattle.tsl_terms.specs.SpecView.{spec_tree};
 use crate::copy::{copy_members, copy_part};
 use crate::formula::{Formula, FormulaList};
 use crate::spec::Spec;
-use sequence::NoMemory;
+use base_library::NoMemory;
 use std::alloc::Global;
 
 /// The formula that a specification stands for: what is guaranteed, under what is assumed where

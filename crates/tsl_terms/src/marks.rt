@@ -11,7 +11,7 @@ ghost use Rattle.tsl_terms.specs.Signals.{term_reads, some_term_reads, atom_read
 use crate::atom::{AtomRef, atoms_of_spec};
 use crate::spec::Spec;
 use crate::term::{Term, TermList};
-use sequence::NoMemory;
+use base_library::NoMemory;
 use std::alloc::Global;
 
 /// Which names are updated and which are read, by their numbers.

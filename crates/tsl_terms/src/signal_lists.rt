@@ -8,7 +8,7 @@ ghost use Rattle.tsl_terms.specs.SpecView.{spec_tree};
 use crate::marks::marks_of;
 use crate::names::{NameKind, Names};
 use crate::spec::Spec;
-use sequence::{NoMemory, Sequence};
+use base_library::{NoMemory, Sequence};
 use std::alloc::Global;
 
 /// The signals of a specification, each list in the order of the names.

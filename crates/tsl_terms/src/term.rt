@@ -3,7 +3,7 @@
 ghost use Rattle.std.specs.Prelude.{◌≡◌, map, IfOk};
 ghost use Rattle.tsl_terms.specs.TermTree.{term_tree, term_trees, terms_of};
 
-use sequence::NoMemory;
+use base_library::NoMemory;
 use std::alloc::Global;
 
 /// How deep the brackets of a term may nest where it is written.

@@ -1,7 +1,7 @@
 //! Windows: assumptions that hold in every run.
 
 use crate::term::{Probe, Term};
-use sequence::Sequence;
+use base_library::Sequence;
 
 /// An update that a window lists.
 #[derive(Debug, Drop)]

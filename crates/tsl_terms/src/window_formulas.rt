@@ -11,7 +11,7 @@ use crate::formula::Formula;
 use crate::joining::{conjunction, under_assumptions};
 use crate::term::Probe;
 use crate::window::{Listed, Window};
-use sequence::NoMemory;
+use base_library::NoMemory;
 use std::alloc::Global;
 
 /// The formula of a window: always, if each listed update and each listed equality holds at its

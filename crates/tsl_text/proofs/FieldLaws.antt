@@ -38,7 +38,7 @@ use Rattle.std.proofs.lemmas.List.{drop_more, take_all, take_rest}
 use Rattle.std.proofs.lemmas.List.Sums.{prefix_len-le-length, prefix_len_stops}
 use Rattle.std.proofs.lemmas.List.Elements.{All-nil, All-cons}
 use Rattle.std.proofs.lemmas.List.Splits.{slice_split_none, slice_split_at}
-use Rattle.sequence.proofs.Passes.{list_all-prefix}
+use Rattle.base_library.proofs.Passes.{list_all-prefix}
 pub use Rattle.tsl_text.proofs.Fronts.{IsStop, stop_after_prefix}
 use Rattle.tsl_text.specs.Lines.{is_blank, is_space, has_bytes, words, fields}
 use Rattle.tsl_text.specs.Written.{is_field, line_of_fields}

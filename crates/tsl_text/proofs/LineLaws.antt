@@ -32,7 +32,7 @@ use Rattle.std.specs.List.{onto_first, list_all, prefix_len}
 use Rattle.std.proofs.lemmas.Bool.{and_parts, not-false, not-true, eqb-true, cond-false}
 use Rattle.std.proofs.lemmas.List.{drop_more, drop_all, take_all, take_rest}
 use Rattle.std.proofs.lemmas.List.Sums.{prefix_len_stops}
-use Rattle.sequence.proofs.Passes.{list_all-prefix}
+use Rattle.base_library.proofs.Passes.{list_all-prefix}
 use Rattle.tsl_text.specs.Lines.{is_line_byte, lines, is_ended, with_numbers, lines_from}
 use Rattle.tsl_text.specs.Written.{is_line, text_of_lines}
 

@@ -13,8 +13,8 @@ use Rattle.tsl_text.specs.declared.TokenKind.{TokenKind}
 use Rattle.tsl_text.specs.declared.TokenKind.TheVariants.{Name, Number, BothArrow, LeftArrow}
 use Rattle.tsl_text.specs.declared.front.Piece.{Piece}
 use Rattle.tsl_text.specs.declared.front.Piece.TheVariants.{Gap, Longest, OpenComment, Nothing}
-use Rattle.sequence.proofs.Passes.{prefix_len-front, list_all-prefix}
-use Rattle.sequence.proofs.Lists.{same_fronts}
+use Rattle.base_library.proofs.Passes.{prefix_len-front, list_all-prefix}
+use Rattle.base_library.proofs.Lists.{same_fronts}
 use Rattle.tsl_text.proofs.Bytes.{
   name_start-no_blank,
   name_start-no_slash,

@@ -48,7 +48,7 @@ use Rattle.std.proofs.lemmas.List.Folds.{list_all-append}
 use Rattle.std.proofs.lemmas.List.Sums.{prefix_len-le-length, prefix_len_passes, prefix_len_stops, count_by_more_yes, count_by_more_no}
 use Rattle.tsl_text.specs.Lines.{is_line_byte, HasNoLineFeed}
 use Rattle.tsl_text.specs.Places.{IsLineStart, IsBetweenFeeds, IsColumn}
-use Rattle.sequence.proofs.Passes.{list_all-prefix}
+use Rattle.base_library.proofs.Passes.{list_all-prefix}
 use Rattle.tsl_text.proofs.Bytes.{prefix_len-line, line_end-prefix}
 
 -- ---- columns

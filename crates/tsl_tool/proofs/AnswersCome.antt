@@ -12,21 +12,21 @@ use Rattle.refinement_loop.specs.Outcomes.{IsLargeFor}
 use Rattle.tsl_io.specs.Effects.{Effect, HasFailed, ContentsAre}
 use Rattle.tsl_terms.specs.SpecTree.{SpecTree}
 use Rattle.tsl_reader.specs.Spells.{Spells}
-use Rattle.tool_ends.specs.declared.status.Status.{Status}
-use Rattle.tool_ends.specs.declared.status.Status.TheVariants.{Done, Spent, ReadFault, Memory}
-use Rattle.tool_ends.specs.declared.reply.Reply.{Reply}
+use Rattle.tool_io.specs.declared.status.Status.{Status}
+use Rattle.tool_io.specs.declared.status.Status.TheVariants.{Done, Spent, ReadFault, Memory}
+use Rattle.tool_io.specs.declared.reply.Reply.{Reply}
 use Rattle.tsl_tool.specs.Answerable.{CanBeAnswered, CanBeRead, NoneFails, is_answer_to}
-use Rattle.tool_ends.specs.Ends.{CountsReads, answered, cut_off, out_of_memory}
-use Rattle.tool_ends.proofs.Ending.{fault_at}
+use Rattle.tool_io.specs.Ends.{CountsReads, answered, cut_off, out_of_memory}
+use Rattle.tool_io.proofs.Ending.{fault_at}
 use Rattle.tsl_tool.specs.Ends.{IsReplyTo, Ends}
 use Rattle.tsl_tool.specs.Outcome.{TaskOutcome, Outcome, usage, source_failed, too_long, on_bytes}
 use Rattle.tsl_tool.specs.Tasks.{bound_asked, most_bytes, search_sizes}
 use Rattle.tsl_tool.proofs.EndLaws.{on_any_bytes}
-use Rattle.search_replies.proofs.GenReplies.{gen_answers}
-use Rattle.judging_replies.proofs.OneInput.{ReadOnce}
-use Rattle.search_replies.proofs.ProveReplies.{question_answers}
-use Rattle.tool_ends.proofs.Replying.{status_of}
-use Rattle.search_replies.proofs.SynthReplies.{search_answers, controller_found}
+use Rattle.synthesis_commands.proofs.GenReplies.{gen_answers}
+use Rattle.checking_commands.proofs.OneInput.{ReadOnce}
+use Rattle.synthesis_commands.proofs.ProveReplies.{question_answers}
+use Rattle.tool_io.proofs.Replying.{status_of}
+use Rattle.synthesis_commands.proofs.SynthReplies.{search_answers, controller_found}
 use Rattle.tsl_tool.proofs.ExchangesCome.{circuit_answers, automaton_answers, accepts_answers}
 use Rattle.tsl_tool.proofs.VerdictsCome.{check_answers, run_answers, recheck_answers}
 

@@ -6,11 +6,11 @@ use Rattle.std.proofs.lemmas.Bool.{and_parts, ltb-true}
 use Rattle.std.proofs.lemmas.List.{length-drop, length-map, take-append-drop}
 use Rattle.std.proofs.lemmas.Nat.{or_lt, pow_below, pow_pos}
 use Rattle.std.proofs.lemmas.Option.{slice_get_within}
-use Rattle.sequence.proofs.Booleans.{same_tests}
-use Rattle.sequence.proofs.Each.{each_weaker, each_map}
-use Rattle.sequence.proofs.Passes.{each_from_list_all}
-use Rattle.letter_text.specs.LetterText.{LoopTree, IsLoop}
-use Rattle.letter_text.proofs.LoopLaws.{one_loop}
+use Rattle.base_library.proofs.Booleans.{same_tests}
+use Rattle.base_library.proofs.Each.{each_weaker, each_map}
+use Rattle.base_library.proofs.Passes.{each_from_list_all}
+use Rattle.lasso_text.specs.LetterText.{LoopTree, IsLoop}
+use Rattle.lasso_text.proofs.LoopLaws.{one_loop}
 use Rattle.tsl_terms.specs.declared.operator.UnaryOperator.TheVariants.{Negation}
 use Rattle.tsl_terms.specs.FormulaTree.{unary}
 use Rattle.tsl_terms.specs.SpecTree.{SpecTree, whole_formula}
@@ -29,12 +29,12 @@ use Rattle.loop_acceptance.proofs.AcceptedLoops.{accepts_where_it_holds}
 use Rattle.automaton_text.specs.BitNames.{bit_names}
 use Rattle.automaton_text.specs.HoaText.{IsEdgeOf, IsHoa, IsHoaText, grouped}
 use Rattle.automaton_text.proofs.WrittenRead.{read_back}
-use Rattle.tool_ends.specs.declared.reply.Reply.{Reply}
-use Rattle.exchange_replies.specs.Letters.{with_bits, letter_of, letters_of}
-use Rattle.exchange_replies.specs.Automaton.{negated_form, IsWrittenAutomaton}
-use Rattle.exchange_replies.specs.Accepts.{AcceptsParts, AcceptsInput, SpellAcceptsInput, verdict_reply, LoopOutcome, automaton_refused}
-use Rattle.exchange_replies.specs.Accepts.{letters_refused, both_spelled, AcceptsOutcome, without_letters, of_parts}
-use Rattle.exchange_replies.proofs.LetterCounts.{letters_within, all_below}
+use Rattle.tool_io.specs.declared.reply.Reply.{Reply}
+use Rattle.exchange_commands.specs.Letters.{with_bits, letter_of, letters_of}
+use Rattle.exchange_commands.specs.Automaton.{negated_form, IsWrittenAutomaton}
+use Rattle.exchange_commands.specs.Accepts.{AcceptsParts, AcceptsInput, SpellAcceptsInput, verdict_reply, LoopOutcome, automaton_refused}
+use Rattle.exchange_commands.specs.Accepts.{letters_refused, both_spelled, AcceptsOutcome, without_letters, of_parts}
+use Rattle.exchange_commands.proofs.LetterCounts.{letters_within, all_below}
 use Rattle.tsl_tool.specs.WrittenAutomata.{TellsNegation, AreWithLoop, holds_on}
 use Rattle.tsl_tool.proofs.ChoiceBits.{edge_asks}
 use Rattle.tsl_tool.proofs.ExchangesCome.{automaton_stands, same_automaton, letters_stand, letters_short, one_division}

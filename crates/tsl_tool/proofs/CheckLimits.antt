@@ -6,13 +6,13 @@ use Rattle.flow_program.specs.Reading.{HasProgramCause}
 use Rattle.program_check.specs.declared.verdict.Limit.{Limit}
 use Rattle.program_check.specs.Verdicts.{IsPassed}
 use Rattle.program_check.proofs.PassedLimits.{no_verdict}
-use Rattle.tool_ends.specs.declared.reply.Reply.{Reply}
-use Rattle.tool_replies.specs.Refusals.{fault_at_limit}
-use Rattle.tool_replies.specs.Replies.{fault_reply}
-use Rattle.tool_replies.proofs.RefusalLaws.{not_refused}
-use Rattle.judging_replies.specs.Check.{CheckParts, AreCheckParts, CheckInput, SpellCheckInput, VerdictOutcome, too_large, judged}
-use Rattle.judging_replies.specs.Check.{TextsOutcome, spec_refused, program_refused, both_spelled, CheckOutcome, without_program, of_texts}
-use Rattle.judging_replies.proofs.OneInput.{one_division, one_check_input, program_not_refused}
+use Rattle.tool_io.specs.declared.reply.Reply.{Reply}
+use Rattle.command_faults.specs.Refusals.{fault_at_limit}
+use Rattle.command_faults.specs.Replies.{fault_reply}
+use Rattle.command_faults.proofs.RefusalLaws.{not_refused}
+use Rattle.checking_commands.specs.Check.{CheckParts, AreCheckParts, CheckInput, SpellCheckInput, VerdictOutcome, too_large, judged}
+use Rattle.checking_commands.specs.Check.{TextsOutcome, spec_refused, program_refused, both_spelled, CheckOutcome, without_program, of_texts}
+use Rattle.checking_commands.proofs.OneInput.{one_division, one_check_input, program_not_refused}
 
 module _ (bound : ℕ) (parts : CheckParts) (input : CheckInput) (spells : SpellCheckInput parts input) (reply : Reply) (limit : Limit)
     (passed : IsPassed input.spec input.program limit) where

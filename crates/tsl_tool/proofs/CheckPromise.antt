@@ -7,14 +7,14 @@ use Rattle.program_check.specs.Verdicts.{IsVerdict, HasFewBits}
 use Rattle.tsl_meaning.specs.Promise.{Realizes}
 use Rattle.tsl_report.specs.declared.fault.Head.TheVariants.{Program}
 use Rattle.tsl_report.specs.declared.fault.Fault.TheVariants.{Parts}
-use Rattle.tool_ends.specs.declared.status.Status.{Status}
-use Rattle.tool_ends.specs.declared.reply.Reply.{Reply}
-use Rattle.tool_ends.specs.declared.status.Status.TheVariants.{Done, No}
-use Rattle.tool_replies.specs.Refusals.{fault_at_limit}
-use Rattle.judging_replies.specs.Check.{CheckParts, AreCheckParts, CheckInput, SpellCheckInput, verdict_reply}
-use Rattle.judging_replies.specs.Check.{VerdictOutcome, too_large, judged, spec_refused, program_refused, both_spelled}
-use Rattle.judging_replies.specs.Check.{CheckOutcome, without_program, of_texts}
-use Rattle.judging_replies.proofs.CheckReplies.{is_yes}
+use Rattle.tool_io.specs.declared.status.Status.{Status}
+use Rattle.tool_io.specs.declared.reply.Reply.{Reply}
+use Rattle.tool_io.specs.declared.status.Status.TheVariants.{Done, No}
+use Rattle.command_faults.specs.Refusals.{fault_at_limit}
+use Rattle.checking_commands.specs.Check.{CheckParts, AreCheckParts, CheckInput, SpellCheckInput, verdict_reply}
+use Rattle.checking_commands.specs.Check.{VerdictOutcome, too_large, judged, spec_refused, program_refused, both_spelled}
+use Rattle.checking_commands.specs.Check.{CheckOutcome, without_program, of_texts}
+use Rattle.checking_commands.proofs.CheckReplies.{is_yes}
 use Rattle.tsl_tool.specs.Promise.{Promise}
 use Rattle.tsl_tool.proofs.FaultPromises.{fault_keeps}
 

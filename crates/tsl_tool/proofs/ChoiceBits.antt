@@ -5,8 +5,8 @@ use Rattle.std.specs.Prelude.{bit_xor}
 use Rattle.std.specs.List.{AllByRecursion, filter_map, cons_option}
 use Rattle.std.specs.Int.Bits.{and_self}
 use Rattle.std.proofs.lemmas.Nat.{or_lt, pow_below, pow_pos, and_le_l}
-use Rattle.sequence.specs.Kept.{with_new, is_kept}
-use Rattle.sequence.proofs.Each.{each_at, each_joined, each_filtered, each_contained}
+use Rattle.base_library.specs.Kept.{with_new, is_kept}
+use Rattle.base_library.proofs.Each.{each_at, each_joined, each_filtered, each_contained}
 use Rattle.ltl_formula.specs.Increasing.{union}
 use Rattle.ltl_formula.specs.LtlTree.{LtlTree, LtlTrees, top, bottom, bit, not_bit, conjunction, disjunction, next, until, release}
 use Rattle.ltl_formula.specs.LtlTree.{no_formulas, more_formulas}

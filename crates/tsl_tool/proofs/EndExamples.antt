@@ -3,12 +3,12 @@ use Rattle.std.proofs.Common.{inl, arith}
 use Rattle.std.specs.Prelude.{ℕ, List, [], ◌∷◌, codes, Some, None, refl}
 use Rattle.tsl_report.specs.declared.fault.Fault.TheVariants.{Usage as WrongWords}
 use Rattle.tsl_report.specs.FaultText.{fault_text}
-use Rattle.tool_ends.specs.declared.status.Status.TheVariants.{Usage, WriteFault}
+use Rattle.tool_io.specs.declared.status.Status.TheVariants.{Usage, WriteFault}
 use Rattle.tsl_io.specs.Effects.{Effect}
-use Rattle.tool_ends.specs.Ends.{answered, cut_off}
+use Rattle.tool_io.specs.Ends.{answered, cut_off}
 use Rattle.tsl_tool.specs.Ends.{IsReplyTo, Ends}
 use Rattle.tsl_tool.specs.Outcome.{usage}
-use Rattle.tool_replies.specs.Replies.{fault_reply}
+use Rattle.command_faults.specs.Replies.{fault_reply}
 
 -- a source that tells nothing and was not called, and a sink that tells its bytes
 abbrev untold : Effect

@@ -3,13 +3,13 @@ use Rattle.std.proofs.Common.{◌≡◌, ◌≢◌, ℕ, true, List, [], refl, a
 use Rattle.std.specs.Prelude.{None}
 use Rattle.tsl_io.specs.Told.{with_added}
 use Rattle.tsl_io.specs.Effects.{Effect, NeverFailed, ContentsAre}
-use Rattle.tool_ends.specs.declared.status.Status.{Status}
-use Rattle.tool_ends.specs.declared.status.Status.TheVariants.{Usage, ReadFault, WriteFault, Memory}
-use Rattle.tool_ends.specs.declared.reply.Reply.{Reply}
-use Rattle.tool_ends.specs.Ends.{CountsReads, answered, cut_off, out_of_memory}
-use Rattle.tool_ends.specs.Statuses.{is_answer}
-use Rattle.tool_ends.proofs.Ending.{answer_told, none_at, fault_at}
-use Rattle.tool_ends.proofs.Replying.{comes_of_bytes}
+use Rattle.tool_io.specs.declared.status.Status.{Status}
+use Rattle.tool_io.specs.declared.status.Status.TheVariants.{Usage, ReadFault, WriteFault, Memory}
+use Rattle.tool_io.specs.declared.reply.Reply.{Reply}
+use Rattle.tool_io.specs.Ends.{CountsReads, answered, cut_off, out_of_memory}
+use Rattle.tool_io.specs.Statuses.{is_answer}
+use Rattle.tool_io.proofs.Ending.{answer_told, none_at, fault_at}
+use Rattle.tool_io.proofs.Replying.{comes_of_bytes}
 use Rattle.command_words.specs.declared.task.Task.{Task}
 use Rattle.command_words.specs.declared.task.Task.TheVariants.{Synth, Check, Run, Prove, Recheck, Gen, Circuit, Automaton, Accepts}
 use Rattle.command_words.specs.Commands.{ParsesTo}

@@ -3,13 +3,13 @@ use Rattle.std.proofs.Common.{◌≡◌, ◌≢◌, ℕ, true, false, List, refl
 use Rattle.command_words.specs.declared.task.Task.TheVariants.{Check, Circuit, Automaton, Accepts}
 use Rattle.tsl_report.specs.declared.fault.Head.TheVariants.{Letters}
 use Rattle.tsl_report.specs.declared.fault.Fault.TheVariants.{Parts, LettersForm}
-use Rattle.tool_ends.specs.declared.status.Status.{Status}
-use Rattle.tool_ends.specs.declared.status.Status.TheVariants.{Done, No}
-use Rattle.tool_ends.specs.declared.reply.Reply.{Reply}
-use Rattle.tool_replies.specs.Refusals.{fault_at_limit}
-use Rattle.exchange_replies.specs.Circuit.{CircuitOutcome, not_accepted, accepted}
-use Rattle.exchange_replies.specs.Automaton.{AutomatonOutcome, refused, of_spec, too_large, told}
-use Rattle.exchange_replies.specs.Accepts.{AcceptsOutcome, without_letters, of_parts, automaton_refused, letters_refused, both_spelled}
+use Rattle.tool_io.specs.declared.status.Status.{Status}
+use Rattle.tool_io.specs.declared.status.Status.TheVariants.{Done, No}
+use Rattle.tool_io.specs.declared.reply.Reply.{Reply}
+use Rattle.command_faults.specs.Refusals.{fault_at_limit}
+use Rattle.exchange_commands.specs.Circuit.{CircuitOutcome, not_accepted, accepted}
+use Rattle.exchange_commands.specs.Automaton.{AutomatonOutcome, refused, of_spec, too_large, told}
+use Rattle.exchange_commands.specs.Accepts.{AcceptsOutcome, without_letters, of_parts, automaton_refused, letters_refused, both_spelled}
 use Rattle.tsl_tool.specs.Promise.{Promise}
 use Rattle.tsl_tool.proofs.CheckPromise.{check_keeps}
 use Rattle.tsl_tool.proofs.FaultPromises.{fault_keeps}

@@ -2,8 +2,8 @@
 use Rattle.std.proofs.Common.{◌≡◌, ℕ, ◌<◌, ◌≤◌, ◌^◌, Bool, true, false, List, drop, length, Some, refl, ap, sym, ◌∙◌, subst, arith}
 use Rattle.std.proofs.lemmas.List.{length-drop}
 use Rattle.line_formats.specs.Machine.{IsFirstWrong, with_last_feed}
-use Rattle.letter_text.specs.LetterText.{step, whole, fresh, loop_lines}
-use Rattle.letter_text.proofs.LoopLaws.{is_text}
+use Rattle.lasso_text.specs.LetterText.{step, whole, fresh, loop_lines}
+use Rattle.lasso_text.proofs.LoopLaws.{is_text}
 use Rattle.cobuchi_automata.specs.Automata.{EdgeTree}
 use Rattle.automaton_text.specs.declared.hoa_error.HoaError.{HoaError}
 use Rattle.automaton_text.specs.declared.hoa_error.HoaError.TheVariants.{Form, Bits, States, Edges, NoMemory}
@@ -26,22 +26,22 @@ use Rattle.letter_space.specs.SpecSpace.{spec_space}
 use Rattle.cobuchi_automata.proofs.AutomatonLemmas.{has_choices, passes_states, passes_edges}
 use Rattle.program_check.specs.declared.verdict.Verdict.TheVariants.{Yes}
 use Rattle.program_check.specs.Verdicts.{IsPassed}
-use Rattle.tool_ends.specs.declared.reply.Reply.{Reply}
-use Rattle.tool_replies.specs.Refusals.{fault_at_limit}
-use Rattle.tool_replies.specs.Replies.{fault_reply}
-use Rattle.tool_replies.proofs.RefusalLaws.{not_refused}
-use Rattle.tool_ends.proofs.Replying.{status_of}
-use Rattle.tool_replies.proofs.Statuses.{fault_not_done}
-use Rattle.judging_replies.specs.Check.{CheckParts, AreCheckParts, CheckInput, SpellCheckInput, CheckOutcome, of_texts, both_spelled as both}
-use Rattle.judging_replies.specs.Check.{judged, verdict_reply as check_reply}
-use Rattle.judging_replies.specs.Judged.{IsAcceptedPair}
-use Rattle.judging_replies.proofs.OneInput.{one_before, one_after}
-use Rattle.exchange_replies.specs.Circuit.{CircuitOutcome, not_accepted, accepted}
-use Rattle.exchange_replies.specs.Automaton.{negated_form, IsPastFor, IsWrittenAutomaton, AutomatonOutcome, refused, of_spec, too_large, told}
-use Rattle.exchange_replies.specs.Accepts.{letters_line, AcceptsParts, AreAcceptsParts, verdict_reply, LoopOutcome, automaton_refused}
-use Rattle.exchange_replies.specs.Accepts.{AcceptsInput, SpellAcceptsInput, IsAutomatonFault}
-use Rattle.exchange_replies.proofs.LetterCounts.{letters_within}
-use Rattle.exchange_replies.specs.Accepts.{letters_refused, both_spelled, AcceptsOutcome, without_letters, of_parts}
+use Rattle.tool_io.specs.declared.reply.Reply.{Reply}
+use Rattle.command_faults.specs.Refusals.{fault_at_limit}
+use Rattle.command_faults.specs.Replies.{fault_reply}
+use Rattle.command_faults.proofs.RefusalLaws.{not_refused}
+use Rattle.tool_io.proofs.Replying.{status_of}
+use Rattle.command_faults.proofs.Statuses.{fault_not_done}
+use Rattle.checking_commands.specs.Check.{CheckParts, AreCheckParts, CheckInput, SpellCheckInput, CheckOutcome, of_texts, both_spelled as both}
+use Rattle.checking_commands.specs.Check.{judged, verdict_reply as check_reply}
+use Rattle.checking_commands.specs.Judged.{IsAcceptedPair}
+use Rattle.checking_commands.proofs.OneInput.{one_before, one_after}
+use Rattle.exchange_commands.specs.Circuit.{CircuitOutcome, not_accepted, accepted}
+use Rattle.exchange_commands.specs.Automaton.{negated_form, IsPastFor, IsWrittenAutomaton, AutomatonOutcome, refused, of_spec, too_large, told}
+use Rattle.exchange_commands.specs.Accepts.{letters_line, AcceptsParts, AreAcceptsParts, verdict_reply, LoopOutcome, automaton_refused}
+use Rattle.exchange_commands.specs.Accepts.{AcceptsInput, SpellAcceptsInput, IsAutomatonFault}
+use Rattle.exchange_commands.proofs.LetterCounts.{letters_within}
+use Rattle.exchange_commands.specs.Accepts.{letters_refused, both_spelled, AcceptsOutcome, without_letters, of_parts}
 use Rattle.tsl_tool.specs.Answerable.{CanBeChecked, CanBeAccepted, is_yes_or_no, is_done}
 use Rattle.tsl_tool.proofs.CheckLimits.{check_tells_limits}
 use Rattle.tsl_tool.proofs.VerdictsCome.{check_answers}

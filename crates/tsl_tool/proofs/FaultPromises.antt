@@ -3,14 +3,14 @@ use Rattle.std.proofs.Common.{◌≡◌, ℕ, false, List, ap, ◌∙◌}
 use Rattle.tsl_report.specs.declared.fault.Fault.{Fault}
 use Rattle.command_words.specs.declared.task.Task.{Task}
 use Rattle.command_words.specs.declared.task.Task.TheVariants.{Synth, Check, Run, Prove, Recheck, Gen, Circuit, Automaton, Accepts}
-use Rattle.tool_ends.specs.declared.status.Status.{Status}
-use Rattle.tool_ends.specs.declared.status.Status.TheVariants.{Done, No, Spent}
-use Rattle.tool_ends.specs.declared.reply.Reply.{Reply}
+use Rattle.tool_io.specs.declared.status.Status.{Status}
+use Rattle.tool_io.specs.declared.status.Status.TheVariants.{Done, No, Spent}
+use Rattle.tool_io.specs.declared.reply.Reply.{Reply}
 use Rattle.tsl_tool.specs.Promise.{Promise}
-use Rattle.tool_ends.specs.Statuses.{is_answer}
-use Rattle.tool_replies.specs.Replies.{fault_reply}
-use Rattle.tool_replies.proofs.Statuses.{fault_is_no_answer}
-use Rattle.tool_ends.proofs.Replying.{status_of}
+use Rattle.tool_io.specs.Statuses.{is_answer}
+use Rattle.command_faults.specs.Replies.{fault_reply}
+use Rattle.command_faults.proofs.Statuses.{fault_is_no_answer}
+use Rattle.tool_io.proofs.Replying.{status_of}
 
 no_answer_promises : (task : Task) (status : Status) (bytes text : List ℕ) → is_answer status ≡ false → Promise task status bytes text
 no_answer_promises (Synth sizes) Done bytes text none = cc

@@ -1,10 +1,10 @@
 -- What the replies of `gen` promise.
 use Rattle.std.proofs.Common.{ℕ, List, sym, subst}
 use Rattle.command_words.specs.declared.task.Task.TheVariants.{Gen}
-use Rattle.tool_ends.specs.declared.status.Status.{Status}
-use Rattle.tool_ends.specs.declared.reply.Reply.{Reply}
-use Rattle.tool_replies.specs.Refusals.{fault_at_limit}
-use Rattle.search_replies.specs.Gen.{GenOutcome, found, none, spent, too_large}
+use Rattle.tool_io.specs.declared.status.Status.{Status}
+use Rattle.tool_io.specs.declared.reply.Reply.{Reply}
+use Rattle.command_faults.specs.Refusals.{fault_at_limit}
+use Rattle.synthesis_commands.specs.Gen.{GenOutcome, found, none, spent, too_large}
 use Rattle.tsl_tool.specs.Promise.{Promise}
 use Rattle.tsl_tool.proofs.FaultPromises.{fault_keeps}
 

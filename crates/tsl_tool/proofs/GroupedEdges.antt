@@ -5,11 +5,11 @@ use Rattle.std.specs.Prelude.{flat_map}
 use Rattle.std.specs.List.{AllByRecursion}
 use Rattle.std.proofs.lemmas.Bool.{cases_lt, eqb-true, eq-eqb}
 use Rattle.std.proofs.lemmas.Option.{none-some, slice_get-get_or, slice_get_within, same_Some}
-use Rattle.sequence.specs.Numbers.{numbers_from}
-use Rattle.sequence.specs.Once.{StandOnce}
-use Rattle.sequence.proofs.Each.{each_from_places, each_filtered, each_flat_map, each_weaker}
-use Rattle.sequence.proofs.Places.{contains_at, slice_get-front, slice_get_grown, slice_get-append}
-use Rattle.sequence.proofs.Passes.{filter_at, filter_has}
+use Rattle.base_library.specs.Numbers.{numbers_from}
+use Rattle.base_library.specs.Once.{StandOnce}
+use Rattle.base_library.proofs.Each.{each_from_places, each_filtered, each_flat_map, each_weaker}
+use Rattle.base_library.proofs.Places.{contains_at, slice_get-front, slice_get_grown, slice_get-append}
+use Rattle.base_library.proofs.Passes.{filter_at, filter_has}
 use Rattle.ltl_formula.specs.LtlTree.{LtlTree}
 use Rattle.obligations.specs.Expansion.{ChoiceTree}
 use Rattle.cobuchi_automata.specs.Automata.{StateTree, EdgeTree, IsAutomaton, IsOfChoice, Leads, untils_of, edge_of}

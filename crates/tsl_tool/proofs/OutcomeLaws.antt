@@ -5,31 +5,31 @@ use Rattle.command_words.proofs.OneTask.{asking_is_taken, one_task}
 use Rattle.tsl_report.specs.declared.fault.Fault.TheVariants.{Usage as WrongWords, Read, Parts, Large as PastLimit}
 use Rattle.tsl_report.specs.declared.fault.Head.TheVariants.{Lrat}
 use Rattle.tsl_report.specs.declared.fault.LimitName.TheVariants.{Text}
-use Rattle.tool_ends.specs.declared.status.Status.{Status}
-use Rattle.tool_ends.specs.declared.status.Status.TheVariants.{Done, No, Usage, Large, ReadFault, WriteFault, Memory}
+use Rattle.tool_io.specs.declared.status.Status.{Status}
+use Rattle.tool_io.specs.declared.status.Status.TheVariants.{Done, No, Usage, Large, ReadFault, WriteFault, Memory}
 use Rattle.command_words.specs.declared.task.Task.{Task}
 use Rattle.command_words.specs.declared.task.Task.TheVariants.{Synth, Check, Run, Prove, Recheck, Gen, Circuit, Automaton, Accepts}
-use Rattle.tool_ends.specs.declared.reply.Reply.{Reply}
-use Rattle.tool_ends.specs.Statuses.{is_answer}
+use Rattle.tool_io.specs.declared.reply.Reply.{Reply}
+use Rattle.tool_io.specs.Statuses.{is_answer}
 use Rattle.tsl_tool.specs.Tasks.{search_sizes}
-use Rattle.tool_replies.specs.HeadLines.{IsFirstLineAt}
-use Rattle.judging_replies.specs.Recheck.{without_log, of_parts, head_line}
-use Rattle.judging_replies.specs.Recheck.{recheck_reply, cnf_part, log_part}
+use Rattle.command_faults.specs.HeadLines.{IsFirstLineAt}
+use Rattle.checking_commands.specs.Recheck.{without_log, of_parts, head_line}
+use Rattle.checking_commands.specs.Recheck.{recheck_reply, cnf_part, log_part}
 use Rattle.tsl_tool.specs.Outcome.{TaskOutcome, Outcome, usage, source_failed, too_long, on_bytes}
 use Rattle.tsl_tool.specs.Promise.{Promise}
-use Rattle.judging_replies.proofs.CheckReplies.{check_comes, check_says}
+use Rattle.checking_commands.proofs.CheckReplies.{check_comes, check_says}
 use Rattle.tsl_tool.proofs.FaultPromises.{fault_keeps}
-use Rattle.search_replies.proofs.GenReplies.{gen_comes, gen_says}
-use Rattle.search_replies.proofs.ProveReplies.{prove_comes, prove_says}
-use Rattle.judging_replies.proofs.RecheckLaws.{yes_refutes, no_exactly}
-use Rattle.judging_replies.proofs.RecheckReplies.{recheck_comes, recheck_says}
-use Rattle.judging_replies.proofs.RunReplies.{run_comes, run_says}
-use Rattle.tool_ends.proofs.Replying.{comes_of_bytes, status_of}
-use Rattle.tool_replies.proofs.Statuses.{fault_says}
-use Rattle.search_replies.proofs.SynthReplies.{synth_comes, synth_says}
-use Rattle.exchange_replies.proofs.AcceptsReplies.{accepts_comes, accepts_says}
-use Rattle.exchange_replies.proofs.AutomatonReplies.{automaton_comes, automaton_says}
-use Rattle.exchange_replies.proofs.CircuitReplies.{circuit_comes, circuit_says}
+use Rattle.synthesis_commands.proofs.GenReplies.{gen_comes, gen_says}
+use Rattle.synthesis_commands.proofs.ProveReplies.{prove_comes, prove_says}
+use Rattle.checking_commands.proofs.RecheckLaws.{yes_refutes, no_exactly}
+use Rattle.checking_commands.proofs.RecheckReplies.{recheck_comes, recheck_says}
+use Rattle.checking_commands.proofs.RunReplies.{run_comes, run_says}
+use Rattle.tool_io.proofs.Replying.{comes_of_bytes, status_of}
+use Rattle.command_faults.proofs.Statuses.{fault_says}
+use Rattle.synthesis_commands.proofs.SynthReplies.{synth_comes, synth_says}
+use Rattle.exchange_commands.proofs.AcceptsReplies.{accepts_comes, accepts_says}
+use Rattle.exchange_commands.proofs.AutomatonReplies.{automaton_comes, automaton_says}
+use Rattle.exchange_commands.proofs.CircuitReplies.{circuit_comes, circuit_says}
 use Rattle.tsl_tool.proofs.CheckPromise.{check_keeps}
 use Rattle.tsl_tool.proofs.ExchangePromises.{circuit_keeps, automaton_keeps, accepts_keeps}
 use Rattle.tsl_tool.proofs.GenPromise.{gen_keeps}

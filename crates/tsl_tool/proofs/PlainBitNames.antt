@@ -8,7 +8,7 @@ use Rattle.std.proofs.lemmas.Bool.{and_parts, and_from, or_cases}
 use Rattle.std.proofs.lemmas.Bool.Decides.{nat_tests}
 use Rattle.std.proofs.lemmas.List.{length-append, length-map}
 use Rattle.std.proofs.lemmas.Slice.Eq.{bytes_eq-Decides}
-use Rattle.sequence.proofs.Passes.{passes_at, list_all_weaker, list_all_joined, list_all_flat_map}
+use Rattle.base_library.proofs.Passes.{passes_at, list_all_weaker, list_all_joined, list_all_flat_map}
 use Rattle.tsl_text.specs.Names.{is_name_byte, is_name_text, is_usable}
 use Rattle.line_formats.specs.Format.{has}
 use Rattle.tsl_terms.specs.Name.{Name, question}

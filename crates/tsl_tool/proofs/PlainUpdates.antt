@@ -30,7 +30,7 @@ use Rattle.tsl_reader.proofs.WithoutDefinitions.{derived_alone}
 use Rattle.tsl_tool.specs.Form.{Pair, update_lexemes, form_lexemes, sides, has_usable_names, signal_named, AreUpdates, IsForm}
 use Rattle.tsl_tool.specs.Form.{SpellsUpdates}
 use Rattle.tsl_tool.specs.Form as form
-use Rattle.sequence.proofs.Each.{each_at}
+use Rattle.base_library.proofs.Each.{each_at}
 
 -- names that are not reserved are no words
 

@@ -4,7 +4,7 @@ use Rattle.std.specs.Prelude.{None}
 use Rattle.clause_core.specs.Literals.{Lit}
 use Rattle.refutation_check.specs.LogText.{log_answer}
 use Rattle.refutation_text.specs.Parted.{SpellsRefutation}
-use Rattle.judging_replies.specs.Recheck.{RecheckOutcome, of_parts, verdict, parts_reply, log_reply, log_part}
+use Rattle.checking_commands.specs.Recheck.{RecheckOutcome, of_parts, verdict, parts_reply, log_reply, log_part}
 
 pub spelled_verified : (text : List ℕ) (variables : ℕ) (clauses : List (List Lit)) → SpellsRefutation text variables clauses →
     RecheckOutcome text (verdict None)

@@ -2,10 +2,10 @@
 use Rattle.std.proofs.Common.{ℕ, List, sym, subst}
 use Rattle.command_words.specs.declared.task.ProveSizes.{ProveSizes}
 use Rattle.command_words.specs.declared.task.Task.TheVariants.{Prove}
-use Rattle.tool_ends.specs.declared.status.Status.{Status}
-use Rattle.tool_ends.specs.declared.reply.Reply.{Reply}
-use Rattle.tool_replies.specs.Refusals.{fault_at_limit}
-use Rattle.search_replies.specs.Prove.{ProveOutcome, refused, of_spec, proved, satisfiable, spent, too_large}
+use Rattle.tool_io.specs.declared.status.Status.{Status}
+use Rattle.tool_io.specs.declared.reply.Reply.{Reply}
+use Rattle.command_faults.specs.Refusals.{fault_at_limit}
+use Rattle.synthesis_commands.specs.Prove.{ProveOutcome, refused, of_spec, proved, satisfiable, spent, too_large}
 use Rattle.tsl_tool.specs.Promise.{Promise}
 use Rattle.tsl_tool.proofs.FaultPromises.{fault_keeps}
 

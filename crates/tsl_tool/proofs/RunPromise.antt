@@ -6,15 +6,15 @@ use Rattle.tsl_meaning.specs.RunTree.{RunTree}
 use Rattle.tsl_meaning.specs.RunLasso.{shape_of}
 use Rattle.tsl_report.specs.declared.fault.Fault.TheVariants.{Parts, Large}
 use Rattle.tsl_report.specs.declared.fault.LimitName.TheVariants.{Run as RunLimit}
-use Rattle.tool_ends.specs.declared.status.Status.{Status}
-use Rattle.tool_ends.specs.declared.reply.Reply.{Reply}
-use Rattle.tool_ends.specs.declared.status.Status.TheVariants.{Done, No}
-use Rattle.judging_replies.specs.RunParts.{RunParts, AreParts}
-use Rattle.judging_replies.specs.Run.{RunInput, SpellRunInput, HasGivenSignals, IsRunTrace, one_fails, signals_differ, judged_formulas}
-use Rattle.judging_replies.specs.Run.{verdicts_of, run_reply, lasso_of, most_configurations, Closes}
-use Rattle.judging_replies.specs.Run.{InputOutcome, runs_on, other_signals, traced, part_refused, spelled}
-use Rattle.judging_replies.specs.Run.{RunOutcome, missing, of_all_parts}
-use Rattle.judging_replies.proofs.RunVerdicts.{each_holds, some_no, all_of_done, not_all_of_no}
+use Rattle.tool_io.specs.declared.status.Status.{Status}
+use Rattle.tool_io.specs.declared.reply.Reply.{Reply}
+use Rattle.tool_io.specs.declared.status.Status.TheVariants.{Done, No}
+use Rattle.checking_commands.specs.RunParts.{RunParts, AreParts}
+use Rattle.checking_commands.specs.Run.{RunInput, SpellRunInput, HasGivenSignals, IsRunTrace, one_fails, signals_differ, judged_formulas}
+use Rattle.checking_commands.specs.Run.{verdicts_of, run_reply, lasso_of, most_configurations, Closes}
+use Rattle.checking_commands.specs.Run.{InputOutcome, runs_on, other_signals, traced, part_refused, spelled}
+use Rattle.checking_commands.specs.Run.{RunOutcome, missing, of_all_parts}
+use Rattle.checking_commands.proofs.RunVerdicts.{each_holds, some_no, all_of_done, not_all_of_no}
 use Rattle.tsl_tool.specs.Promise.{Promise}
 use Rattle.tsl_tool.proofs.FaultPromises.{fault_keeps}
 

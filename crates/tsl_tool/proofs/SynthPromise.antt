@@ -2,10 +2,10 @@
 use Rattle.std.proofs.Common.{ℕ, List, sym, subst}
 use Rattle.command_words.specs.declared.task.SynthSizes.{SynthSizes}
 use Rattle.command_words.specs.declared.task.Task.TheVariants.{Synth}
-use Rattle.tool_ends.specs.declared.status.Status.{Status}
-use Rattle.tool_ends.specs.declared.reply.Reply.{Reply}
-use Rattle.tool_ends.proofs.Replying.{status_of}
-use Rattle.search_replies.specs.Synth.{SynthOutcome, refused, of_spec, written, told_none, spent, too_large}
+use Rattle.tool_io.specs.declared.status.Status.{Status}
+use Rattle.tool_io.specs.declared.reply.Reply.{Reply}
+use Rattle.tool_io.proofs.Replying.{status_of}
+use Rattle.synthesis_commands.specs.Synth.{SynthOutcome, refused, of_spec, written, told_none, spent, too_large}
 use Rattle.tsl_tool.specs.Promise.{Promise}
 use Rattle.tsl_tool.specs.Tasks.{search_sizes}
 use Rattle.tsl_tool.proofs.FaultPromises.{fault_keeps}

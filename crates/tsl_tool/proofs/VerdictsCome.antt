@@ -22,28 +22,28 @@ use Rattle.tsl_report.specs.declared.fault.Head.{Head}
 use Rattle.tsl_report.specs.declared.fault.Fault.{Fault}
 use Rattle.tsl_report.specs.declared.fault.Fault.TheVariants.{Large}
 use Rattle.tsl_report.specs.declared.fault.LimitName.TheVariants.{Run as RunLimit}
-use Rattle.tool_ends.specs.declared.status.Status.TheVariants.{Done, No}
-use Rattle.tool_ends.specs.declared.reply.Reply.{Reply}
+use Rattle.tool_io.specs.declared.status.Status.TheVariants.{Done, No}
+use Rattle.tool_io.specs.declared.reply.Reply.{Reply}
 use Rattle.tsl_tool.specs.Answerable.{CanBeChecked, CanBeRun, is_yes_or_no}
-use Rattle.judging_replies.specs.Check.{CheckParts, CheckInput, SpellCheckInput, verdict_reply, VerdictOutcome, too_large, judged}
-use Rattle.judging_replies.specs.Check.{TextsOutcome, spec_refused, program_refused, both_spelled, CheckOutcome, without_program, of_texts}
-use Rattle.tool_replies.specs.HeadLines.{IsCutBefore}
-use Rattle.judging_replies.specs.Recheck.{RecheckOutcome, without_log, of_parts, head_line, verdict, FormulaAndLog, OfParts, refusal_of}
-use Rattle.judging_replies.specs.Recheck.{recheck_reply}
-use Rattle.tool_replies.specs.HeadLines.{IsFirstLineAt}
-use Rattle.tool_replies.specs.Replies.{fault_reply}
-use Rattle.tool_replies.specs.Refusals.{HasSpecFault}
-use Rattle.judging_replies.specs.Run.{SpellsGiven, SpellsMeaning, given_names, RunInput, SpellRunInput, HasPartFault, in_spec}
-use Rattle.judging_replies.specs.Run.{in_program, in_meaning, in_inputs}
-use Rattle.judging_replies.specs.Run.{InputOutcome, runs_on, other_signals, traced, PartsOutcome, part_refused, spelled, RunOutcome, missing}
-use Rattle.judging_replies.specs.Run.{of_all_parts, meanings_of_input, most_configurations, verdict_status, verdicts_of, Closes}
-use Rattle.judging_replies.specs.RunParts.{RunParts, AreParts, IsCutByStyle, LacksPart, lacks_program, lacks_meaning, lacks_inputs}
-use Rattle.judging_replies.specs.RunParts.{program_line, inputs_line}
-use Rattle.judging_replies.proofs.OneInput.{one_place, one_after, one_cut, one_division, one_run_division, one_check_input, one_given, one_program_read}
-use Rattle.judging_replies.proofs.OneInput.{ReadOnce, one_run_input, program_not_refused, meaning_not_refused, inputs_not_refused}
-use Rattle.judging_replies.proofs.RecheckLaws.{is_verdict}
-use Rattle.tool_ends.proofs.Replying.{status_of}
-use Rattle.tool_replies.proofs.RefusalLaws.{not_refused}
+use Rattle.checking_commands.specs.Check.{CheckParts, CheckInput, SpellCheckInput, verdict_reply, VerdictOutcome, too_large, judged}
+use Rattle.checking_commands.specs.Check.{TextsOutcome, spec_refused, program_refused, both_spelled, CheckOutcome, without_program, of_texts}
+use Rattle.command_faults.specs.HeadLines.{IsCutBefore}
+use Rattle.checking_commands.specs.Recheck.{RecheckOutcome, without_log, of_parts, head_line, verdict, FormulaAndLog, OfParts, refusal_of}
+use Rattle.checking_commands.specs.Recheck.{recheck_reply}
+use Rattle.command_faults.specs.HeadLines.{IsFirstLineAt}
+use Rattle.command_faults.specs.Replies.{fault_reply}
+use Rattle.command_faults.specs.Refusals.{HasSpecFault}
+use Rattle.checking_commands.specs.Run.{SpellsGiven, SpellsMeaning, given_names, RunInput, SpellRunInput, HasPartFault, in_spec}
+use Rattle.checking_commands.specs.Run.{in_program, in_meaning, in_inputs}
+use Rattle.checking_commands.specs.Run.{InputOutcome, runs_on, other_signals, traced, PartsOutcome, part_refused, spelled, RunOutcome, missing}
+use Rattle.checking_commands.specs.Run.{of_all_parts, meanings_of_input, most_configurations, verdict_status, verdicts_of, Closes}
+use Rattle.checking_commands.specs.RunParts.{RunParts, AreParts, IsCutByStyle, LacksPart, lacks_program, lacks_meaning, lacks_inputs}
+use Rattle.checking_commands.specs.RunParts.{program_line, inputs_line}
+use Rattle.checking_commands.proofs.OneInput.{one_place, one_after, one_cut, one_division, one_run_division, one_check_input, one_given, one_program_read}
+use Rattle.checking_commands.proofs.OneInput.{ReadOnce, one_run_input, program_not_refused, meaning_not_refused, inputs_not_refused}
+use Rattle.checking_commands.proofs.RecheckLaws.{is_verdict}
+use Rattle.tool_io.proofs.Replying.{status_of}
+use Rattle.command_faults.proofs.RefusalLaws.{not_refused}
 
 -- ---- `check`
 

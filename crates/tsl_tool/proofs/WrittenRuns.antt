@@ -2,7 +2,7 @@
 use Rattle.std.proofs.Common.{◌≡◌, ◌≢◌, ℕ, List, [], map, ap, sym, ◌∙◌, subst, inl, inr}
 use Rattle.std.specs.Prelude.{Option, Some, None, IsTrue}
 use Rattle.std.specs.List.{list_all, AllByRecursion}
-use Rattle.sequence.proofs.Each.{each_joined, each_map, each_weaker}
+use Rattle.base_library.proofs.Each.{each_joined, each_map, each_weaker}
 use Rattle.tsl_terms.specs.declared.names.NameKind.TheVariants.{Signal}
 use Rattle.tsl_terms.specs.Name.{Name, is_name, AreDistinct}
 use Rattle.tsl_terms.specs.SpecTree.{SpecTree}
@@ -24,24 +24,24 @@ use Rattle.word_interp.specs.Words.{SpellsWords}
 use Rattle.refinement_loop.specs.declared.outcome.Search.{Search}
 use Rattle.tsl_report.specs.declared.fault.Fault.TheVariants.{Parts, Large}
 use Rattle.tsl_report.specs.declared.fault.LimitName.TheVariants.{Run as RunLimit}
-use Rattle.tool_ends.specs.declared.status.Status.TheVariants.{Done, No}
-use Rattle.tool_ends.specs.declared.reply.Reply.{Reply}
-use Rattle.tool_ends.proofs.Replying.{status_of}
-use Rattle.tool_replies.proofs.Statuses.{fault_not_no}
-use Rattle.search_replies.specs.Synth.{IsWritten, OfSpec}
-use Rattle.judging_replies.specs.declared.parting.Style.{Style}
-use Rattle.judging_replies.specs.declared.parting.Style.TheVariants.{Tables, Words}
-use Rattle.judging_replies.specs.Run.{SpellsGiven, SpellsMeaning, HasGivenSignals, RunInput, SpellRunInput, given_names, given_formulas}
-use Rattle.judging_replies.specs.Run.{formulas_to_judge, judged_formulas, lasso_of, IsFirstRun, InputOutcome, runs_on, other_signals, traced}
-use Rattle.judging_replies.specs.Run.{part_refused, spelled, RunOutcome, missing, of_all_parts, most_configurations}
-use Rattle.judging_replies.specs.RunParts.{RunParts}
+use Rattle.tool_io.specs.declared.status.Status.TheVariants.{Done, No}
+use Rattle.tool_io.specs.declared.reply.Reply.{Reply}
+use Rattle.tool_io.proofs.Replying.{status_of}
+use Rattle.command_faults.proofs.Statuses.{fault_not_no}
+use Rattle.synthesis_commands.specs.Synth.{IsWritten, OfSpec}
+use Rattle.checking_commands.specs.declared.parting.Style.{Style}
+use Rattle.checking_commands.specs.declared.parting.Style.TheVariants.{Tables, Words}
+use Rattle.checking_commands.specs.Run.{SpellsGiven, SpellsMeaning, HasGivenSignals, RunInput, SpellRunInput, given_names, given_formulas}
+use Rattle.checking_commands.specs.Run.{formulas_to_judge, judged_formulas, lasso_of, IsFirstRun, InputOutcome, runs_on, other_signals, traced}
+use Rattle.checking_commands.specs.Run.{part_refused, spelled, RunOutcome, missing, of_all_parts, most_configurations}
+use Rattle.checking_commands.specs.RunParts.{RunParts}
 use Rattle.flow_program.proofs.ReadingLaws.{one_reading, spelled_is_read}
 use Rattle.flow_program.proofs.Renumbered.{congruent_over_others}
 use Rattle.program_check.proofs.Accepted.{sound_windows_hold}
 use Rattle.tsl_meaning.proofs.Naming.{written_program}
-use Rattle.judging_replies.proofs.OneInput.{one_run_division}
-use Rattle.judging_replies.proofs.RunNames.{cells_named}
-use Rattle.judging_replies.proofs.RunVerdicts.{yes_where_all_hold}
+use Rattle.checking_commands.proofs.OneInput.{one_run_division}
+use Rattle.checking_commands.proofs.RunNames.{cells_named}
+use Rattle.checking_commands.proofs.RunVerdicts.{yes_where_all_hold}
 use Rattle.tsl_tool.specs.WrittenPrograms.{IsGivenWith, RunsProgramOf}
 
 -- ---- what the laws below say of what is spelled

@@ -10,18 +10,18 @@ use Rattle.refinement_loop.specs.declared.outcome.Bound.TheVariants.{Fixed}
 use Rattle.refinement_loop.specs.Outcomes.{IsLargeFor, IsLargeAfter}
 use Rattle.tsl_io.specs.Effects.{Effect, HasFailed}
 use Rattle.tsl_meaning.specs.RunOf.{AreDifferent}
-use Rattle.tool_ends.specs.declared.status.Status.{Status}
-use Rattle.tool_ends.specs.declared.status.Status.TheVariants.{Done, No, Usage, Reading, Large, Spent, ReadFault, WriteFault, Memory}
-use Rattle.judging_replies.specs.Check.{CheckParts, AreCheckParts, CheckInput, SpellCheckInput}
-use Rattle.search_replies.specs.Gen.{OfGenerated}
-use Rattle.judging_replies.specs.Recheck.{FormulaAndLog, OfParts}
-use Rattle.judging_replies.specs.Run.{RunInput, SpellRunInput, meanings_of_input, most_configurations}
-use Rattle.judging_replies.specs.RunParts.{RunParts, AreParts}
-use Rattle.exchange_replies.specs.Automaton.{IsPastFor}
+use Rattle.tool_io.specs.declared.status.Status.{Status}
+use Rattle.tool_io.specs.declared.status.Status.TheVariants.{Done, No, Usage, Reading, Large, Spent, ReadFault, WriteFault, Memory}
+use Rattle.checking_commands.specs.Check.{CheckParts, AreCheckParts, CheckInput, SpellCheckInput}
+use Rattle.synthesis_commands.specs.Gen.{OfGenerated}
+use Rattle.checking_commands.specs.Recheck.{FormulaAndLog, OfParts}
+use Rattle.checking_commands.specs.Run.{RunInput, SpellRunInput, meanings_of_input, most_configurations}
+use Rattle.checking_commands.specs.RunParts.{RunParts, AreParts}
+use Rattle.exchange_commands.specs.Automaton.{IsPastFor}
 use Rattle.automaton_text.specs.HoaRefusals.{IsSmall}
-use Rattle.exchange_replies.specs.Accepts.{OfAcceptsInput}
-use Rattle.tool_ends.specs.Statuses.{is_answer}
-use Rattle.search_replies.specs.Synth.{OfSpec}
+use Rattle.exchange_commands.specs.Accepts.{OfAcceptsInput}
+use Rattle.tool_io.specs.Statuses.{is_answer}
+use Rattle.synthesis_commands.specs.Synth.{OfSpec}
 use Rattle.tsl_tool.specs.Tasks.{search_sizes}
 
 -- ---- what can be answered

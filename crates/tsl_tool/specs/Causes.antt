@@ -1,8 +1,8 @@
 -- What follows from how a run ends: when each status comes, and what a fault leads to.
 use Rattle.std.specs.Prelude.{◌≡◌, ℕ, ◌<◌, ◌⊎◌, false, List}
 use Rattle.command_words.specs.Commands.{are_taken}
-use Rattle.tool_ends.specs.declared.status.Status.{Status}
-use Rattle.tool_ends.specs.declared.status.Status.TheVariants.{Usage, ReadFault, WriteFault, Memory}
+use Rattle.tool_io.specs.declared.status.Status.{Status}
+use Rattle.tool_io.specs.declared.status.Status.TheVariants.{Usage, ReadFault, WriteFault, Memory}
 use Rattle.tsl_io.specs.Effects.{Effect, HasFailed, IsUntouched}
 
 -- a fault was counted

@@ -16,7 +16,7 @@ use Rattle.letter_space.specs.declared.limits.TheConstants.{MOST_PREDICATES, MOS
 use Rattle.branch_finder.specs.declared.limits.TheConstants.{MOST_BRANCHES}
 use Rattle.obligations.specs.Choices.{most_choices, letter_bits}
 use Rattle.cobuchi_automata.specs.Refusals.{most_automaton_states, most_automaton_edges}
-use Rattle.judging_replies.specs.declared.running.TheConstants.{MOST_CONFIGURATIONS}
+use Rattle.checking_commands.specs.declared.running.TheConstants.{MOST_CONFIGURATIONS}
 use Rattle.tsl_tool.specs.Tasks.{most_bytes}
 
 pub record LimitsAreThese : Type 0 where

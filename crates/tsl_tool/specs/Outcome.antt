@@ -5,18 +5,18 @@ use Rattle.command_words.specs.declared.task.Task.TheVariants.{Synth, Check, Run
 use Rattle.command_words.specs.Commands.{ParsesTo, are_taken}
 use Rattle.tsl_report.specs.declared.fault.LimitName.TheVariants.{Text}
 use Rattle.tsl_report.specs.declared.fault.Fault.TheVariants.{Usage, Read, Large}
-use Rattle.tool_ends.specs.declared.reply.Reply.{Reply}
-use Rattle.search_replies.specs.Gen.{GenOutcome}
+use Rattle.tool_io.specs.declared.reply.Reply.{Reply}
+use Rattle.synthesis_commands.specs.Gen.{GenOutcome}
 use Rattle.tsl_tool.specs.Tasks.{AreFewBytes, most_bytes, search_sizes}
-use Rattle.tool_replies.specs.Replies.{fault_reply}
-use Rattle.search_replies.specs.Synth.{SynthOutcome}
-use Rattle.judging_replies.specs.Check.{CheckOutcome}
-use Rattle.judging_replies.specs.Run.{RunOutcome}
-use Rattle.search_replies.specs.Prove.{ProveOutcome}
-use Rattle.judging_replies.specs.Recheck.{RecheckOutcome}
-use Rattle.exchange_replies.specs.Circuit.{CircuitOutcome}
-use Rattle.exchange_replies.specs.Automaton.{AutomatonOutcome}
-use Rattle.exchange_replies.specs.Accepts.{AcceptsOutcome}
+use Rattle.command_faults.specs.Replies.{fault_reply}
+use Rattle.synthesis_commands.specs.Synth.{SynthOutcome}
+use Rattle.checking_commands.specs.Check.{CheckOutcome}
+use Rattle.checking_commands.specs.Run.{RunOutcome}
+use Rattle.synthesis_commands.specs.Prove.{ProveOutcome}
+use Rattle.checking_commands.specs.Recheck.{RecheckOutcome}
+use Rattle.exchange_commands.specs.Circuit.{CircuitOutcome}
+use Rattle.exchange_commands.specs.Automaton.{AutomatonOutcome}
+use Rattle.exchange_commands.specs.Accepts.{AcceptsOutcome}
 
 -- what a task replies to bytes that are not too many
 abbrev pub TaskOutcome : Task → List ℕ → Reply → Type 0

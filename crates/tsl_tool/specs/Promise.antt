@@ -2,17 +2,17 @@
 use Rattle.std.specs.Prelude.{◌≡◌, ℕ, List, codes}
 use Rattle.command_words.specs.declared.task.Task.{Task}
 use Rattle.command_words.specs.declared.task.Task.TheVariants.{Synth, Check, Run, Prove, Recheck, Gen, Circuit, Automaton, Accepts}
-use Rattle.tool_ends.specs.declared.status.Status.{Status}
-use Rattle.tool_ends.specs.declared.status.Status.TheVariants.{Done, No, Spent}
-use Rattle.search_replies.specs.Synth.{IsWritten, TellsNone, TellsSpent, TellsSpentOn, OfSpec}
-use Rattle.search_replies.specs.Prove.{IsProof, TellsSatisfiable}
-use Rattle.judging_replies.specs.Check.{IsAcceptedProgram, IsRefusedProgram}
-use Rattle.judging_replies.specs.Run.{AllHold, SomeFails}
-use Rattle.judging_replies.specs.Recheck.{IsRefutation, IsRefused, OfParts}
-use Rattle.search_replies.specs.Gen.{OfGenerated, TellsProgram, TellsNoProgram}
-use Rattle.exchange_replies.specs.Circuit.{IsWrittenCircuit}
-use Rattle.exchange_replies.specs.Automaton.{IsWrittenAutomaton}
-use Rattle.exchange_replies.specs.Accepts.{OfAcceptsInput, AcceptsInputLoop, RejectsInputLoop}
+use Rattle.tool_io.specs.declared.status.Status.{Status}
+use Rattle.tool_io.specs.declared.status.Status.TheVariants.{Done, No, Spent}
+use Rattle.synthesis_commands.specs.Synth.{IsWritten, TellsNone, TellsSpent, TellsSpentOn, OfSpec}
+use Rattle.synthesis_commands.specs.Prove.{IsProof, TellsSatisfiable}
+use Rattle.checking_commands.specs.Check.{IsAcceptedProgram, IsRefusedProgram}
+use Rattle.checking_commands.specs.Run.{AllHold, SomeFails}
+use Rattle.checking_commands.specs.Recheck.{IsRefutation, IsRefused, OfParts}
+use Rattle.synthesis_commands.specs.Gen.{OfGenerated, TellsProgram, TellsNoProgram}
+use Rattle.exchange_commands.specs.Circuit.{IsWrittenCircuit}
+use Rattle.exchange_commands.specs.Automaton.{IsWrittenAutomaton}
+use Rattle.exchange_commands.specs.Accepts.{OfAcceptsInput, AcceptsInputLoop, RejectsInputLoop}
 use Rattle.tsl_tool.specs.Tasks.{search_sizes}
 
 -- What a task promises of the bytes and of the text that is written, by the status.

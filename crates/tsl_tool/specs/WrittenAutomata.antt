@@ -1,7 +1,7 @@
 -- What `accepts` reads of a text that `automaton` wrote.
 use Rattle.std.specs.Prelude.{◌≡◌, ℕ, Bool, List, length}
 use Rattle.line_formats.specs.Machine.{with_last_feed}
-use Rattle.letter_text.specs.LetterText.{LoopTree, IsLoop, loop_text}
+use Rattle.lasso_text.specs.LetterText.{LoopTree, IsLoop, loop_text}
 use Rattle.tsl_terms.specs.SpecTree.{SpecTree, whole_formula}
 use Rattle.tsl_meaning.specs.Lasso.{meets}
 use Rattle.letter_space.specs.SpaceTree.{bit_count}
@@ -11,9 +11,9 @@ use Rattle.cobuchi_automata.specs.Automata.{StateTree, EdgeTree, IsAutomaton}
 use Rattle.loop_acceptance.specs.Accepts.{loop_of}
 use Rattle.automaton_text.specs.HoaText.{IsHoaText}
 use Rattle.automaton_text.specs.HoaRefusals.{IsSmall}
-use Rattle.exchange_replies.specs.Letters.{letters_of}
-use Rattle.exchange_replies.specs.Automaton.{negated_form}
-use Rattle.exchange_replies.specs.Accepts.{AcceptsParts, AreAcceptsParts}
+use Rattle.exchange_commands.specs.Letters.{letters_of}
+use Rattle.exchange_commands.specs.Automaton.{negated_form}
+use Rattle.exchange_commands.specs.Accepts.{AcceptsParts, AreAcceptsParts}
 
 -- The text tells an automaton over the bits of the specification, within the limits of `accepts`. Its states and edges are those of an
 -- automaton of the negation of the whole formula.

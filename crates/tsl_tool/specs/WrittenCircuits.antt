@@ -8,7 +8,7 @@ use Rattle.letter_space.specs.Letters.{valuation_count}
 use Rattle.circuits.specs.Circuits.{CircuitTree}
 use Rattle.controller_circuits.specs.OfController.{inputs_at}
 use Rattle.controller_circuits.specs.Runs.{outputs_along, updates_along}
-use Rattle.exchange_replies.specs.Circuit.{IsCircuitOfProgram}
+use Rattle.exchange_commands.specs.Circuit.{IsCircuitOfProgram}
 
 -- Over any list of valuations, one step after another from the start, where all latches are false, the circuit's outputs are the
 -- updates that the program's controller makes from its state 0.

@@ -2,7 +2,7 @@
 use Rattle.std.specs.Prelude.{◌≡◌, ◌⊎◌, ℕ, List, []}
 use Rattle.tsl_terms.specs.SpecTree.{SpecTree}
 use Rattle.tsl_reader.specs.Spells.{Spells}
-use Rattle.judging_replies.specs.RunParts.{RunParts, AreParts}
+use Rattle.checking_commands.specs.RunParts.{RunParts, AreParts}
 
 -- both texts spell one specification
 abbrev pub SpellTheSame : List ℕ → List ℕ → Type 0

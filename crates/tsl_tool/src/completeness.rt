@@ -11,18 +11,18 @@ ghost use Rattle.program_check.specs.declared.verdict.Limit.{Limit};
 ghost use Rattle.refinement_loop.specs.Questions.{HasSolution};
 ghost use Rattle.refinement_loop.specs.Outcomes.{IsLargeFor};
 ghost use Rattle.tsl_io.specs.Effects.{Effect};
-ghost use Rattle.tool_ends.specs.declared.reply.Reply.{Reply};
-ghost use Rattle.tool_ends.specs.declared.status.Status.{Status};
+ghost use Rattle.tool_io.specs.declared.reply.Reply.{Reply};
+ghost use Rattle.tool_io.specs.declared.status.Status.{Status};
 ghost use Rattle.tsl_tool.specs.Answerable.{CanBeAnswered, CanBeChecked, CanBeRun, CanBeRead, NoneFails};
 ghost use Rattle.tsl_tool.specs.Answerable.{is_answer_to, is_yes_or_no};
-ghost use Rattle.judging_replies.specs.Check.{CheckOutcome};
+ghost use Rattle.checking_commands.specs.Check.{CheckOutcome};
 ghost use Rattle.tsl_tool.specs.Ends.{Ends};
-ghost use Rattle.judging_replies.specs.Recheck.{FormulaAndLog, OfParts, RecheckOutcome};
-ghost use Rattle.judging_replies.specs.Run.{RunOutcome};
+ghost use Rattle.checking_commands.specs.Recheck.{FormulaAndLog, OfParts, RecheckOutcome};
+ghost use Rattle.checking_commands.specs.Run.{RunOutcome};
 ghost use Rattle.tsl_tool.specs.Tasks.{bound_asked, most_bytes};
 
 use table_interp::one_reading;
-use tool_ends::Status;
+use tool_io::Status;
 use word_interp::one_reading as one_words_reading;
 
 /// Where the parts of the bytes are spelled and no limit is passed, what `check`, `run` and `recheck`

@@ -3,17 +3,17 @@
 
 ghost use Rattle.std.specs.Prelude.{◌≡◌, ℕ, List, not};
 ghost use Rattle.command_words.specs.declared.task.Task.TheVariants.{Accepts};
-ghost use Rattle.letter_text.specs.LetterText.{LoopTree};
+ghost use Rattle.lasso_text.specs.LetterText.{LoopTree};
 ghost use Rattle.tsl_reader.specs.Spells.{Spells};
-ghost use Rattle.tool_ends.specs.declared.reply.Reply.{Reply};
-ghost use Rattle.exchange_replies.specs.Automaton.{IsWrittenAutomaton};
-ghost use Rattle.exchange_replies.specs.Accepts.{AcceptsOutcome, verdict_reply};
+ghost use Rattle.tool_io.specs.declared.reply.Reply.{Reply};
+ghost use Rattle.exchange_commands.specs.Automaton.{IsWrittenAutomaton};
+ghost use Rattle.exchange_commands.specs.Accepts.{AcceptsOutcome, verdict_reply};
 ghost use Rattle.tsl_tool.specs.Tasks.{AreFewBytes, most_bytes};
 ghost use Rattle.tsl_tool.specs.WrittenAutomata.{TellsNegation, AreWithLoop, holds_on};
 ghost use Rattle.tsl_terms.specs.SpecTree.{SpecTree};
 ghost use Rattle.program_tree.specs.ProgramTree.{ProgramTree};
 ghost use Rattle.circuits.specs.Circuits.{CircuitTree};
-ghost use Rattle.exchange_replies.specs.Circuit.{IsCircuitOfProgram};
+ghost use Rattle.exchange_commands.specs.Circuit.{IsCircuitOfProgram};
 ghost use Rattle.tsl_tool.specs.WrittenCircuits.{RunsAsProgram};
 
 /// From the start, where all latches are false, a circuit that `circuit` writes makes the updates of the

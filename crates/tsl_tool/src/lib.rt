@@ -3,25 +3,25 @@
 //! `tsl` takes the words after the program's name, a source and two sinks, and answers a `Status`.
 //! Its contract is the promise of the whole tool. Its words, in the order to read them:
 //!
-//! 1. `Status` (`tool_ends`): nine ways to end. `Done`, `No` and `Spent` are answers, whose
+//! 1. `Status` (`tool_io`): nine ways to end. `Done`, `No` and `Spent` are answers, whose
 //!    text goes to the first sink; the text of every other one goes to the second (`is_answer`).
 //! 2. `Task` (`command_words`): a command with its numbers. `ParsesTo words task` says that the words
 //!    ask for it: the first names its command, and its numbers are those that `clap`'s definition of
 //!    that command gives its arguments; `are_taken` says whether `clap` takes the words at all
 //!    (`specs/Commands.antt` of `command_words`). `most_bytes` is what a task reads at most, and
 //!    `ReadNothing` says that nothing is read (`specs/Tasks.antt`).
-//! 3. `Reply` (`tool_ends`): a status and one text. `fault_reply` (`tool_replies`) is that of a fault.
+//! 3. `Reply` (`tool_io`): a status and one text. `fault_reply` (`command_faults`) is that of a fault.
 //! 4. `Outcome words bytes reply` (`specs/Outcome.antt`): what the words and the bytes of the
 //!    source may lead to. For each task it goes on to `SynthOutcome`, `ProveOutcome` or `GenOutcome`
-//!    (`specs/Synth.antt`, `specs/Prove.antt` and `specs/Gen.antt` of `search_replies`), or to
+//!    (`specs/Synth.antt`, `specs/Prove.antt` and `specs/Gen.antt` of `synthesis_commands`), or to
 //!    `CheckOutcome`, `RunOutcome` or `RecheckOutcome` (`specs/Check.antt`, `specs/Run.antt` and
-//!    `specs/Recheck.antt` of `judging_replies`), or to `CircuitOutcome`, `AutomatonOutcome` or
+//!    `specs/Recheck.antt` of `checking_commands`), or to `CircuitOutcome`, `AutomatonOutcome` or
 //!    `AcceptsOutcome` (`specs/Circuit.antt`, `specs/Automaton.antt` and `specs/Accepts.antt` of
-//!    `exchange_replies`).
+//!    `exchange_commands`).
 //! 5. `Effect` (`specs/Effects.antt` of `tsl_io`): the bytes and the count of faults of a source
 //!    or a sink, before the run and after it, and what can be said of them: untouched, written
 //!    whole, cut off by a fault.
-//! 6. `Ends` (`specs/Ends.antt`, by `EndsIn` of `tool_ends`): the three ways in which a run ends. The text
+//! 6. `Ends` (`specs/Ends.antt`, by `EndsIn` of `tool_io`): the three ways in which a run ends. The text
 //!    of a reply was written whole, or it was cut off, or memory ran out. The reply is an outcome on the bytes of
 //!    the source: on those that the source tells, and on some bytes where it tells none, as
 //!    standard input does.
@@ -83,10 +83,10 @@
 //!   they are.
 //!
 //! `check`, `circuit`, `run` and `accepts` find the parts of their input by lines alone
-//! (`specs/Check.antt` and `specs/RunParts.antt` of `judging_replies`, `specs/Accepts.antt` of
-//! `exchange_replies`). Each refusal of a specification and each limit of the work on it has the line of
-//! its fault (`specs/Refusals.antt` of `tool_replies`), and so has each refusal of another part
-//! (`specs/RunFaults.antt` of `judging_replies`, `specs/Accepts.antt` of `exchange_replies`).
+//! (`specs/Check.antt` and `specs/RunParts.antt` of `checking_commands`, `specs/Accepts.antt` of
+//! `exchange_commands`). Each refusal of a specification and each limit of the work on it has the line of
+//! its fault (`specs/Refusals.antt` of `command_faults`), and so has each refusal of another part
+//! (`specs/RunFaults.antt` of `checking_commands`, `specs/Accepts.antt` of `exchange_commands`).
 //!
 //! A new command adds a variant of `Task` and its words, a reply with a relation of its own in the
 //! crate of its kind, a line of `TaskOutcome`, and its lines of `Promise`.
@@ -107,5 +107,5 @@ pub use laws::{
     searches_are_answered, verdicts_are_those_of_logs, verdicts_are_those_of_runs,
     written_programs_do_not_fail,
 };
-pub use tool_ends::Status;
+pub use tool_io::Status;
 pub use top::tsl;

@@ -28,8 +28,8 @@ use Rattle.std.specs.Prelude.{⊤}
 use Rattle.std.proofs.lemmas.Bool.{false≢true}
 use Rattle.std.specs.List.{AllByRecursion, list_all, list_any}
 use Rattle.std.specs.Option.{option_map_or}
-use Rattle.sequence.proofs.Booleans.{not_not}
-use Rattle.sequence.proofs.Each.{each_left, each_right}
+use Rattle.base_library.proofs.Booleans.{not_not}
+use Rattle.base_library.proofs.Each.{each_left, each_right}
 use Rattle.loop_shape.specs.LoopShape.{LoopShape, IsPosition, after, positions_from}
 use Rattle.loop_shape.proofs.Steps.{after_position}
 use Rattle.loop_shape.specs.AlongLoop.{holds_until, until_at, release_at}

@@ -4,7 +4,7 @@ use Rattle.std.specs.Prelude.{⊤}
 use Rattle.std.specs.Option.{option_map_or}
 use Rattle.std.proofs.lemmas.List.{map-append}
 use Rattle.std.proofs.lemmas.Option.{slice_get-map}
-use Rattle.sequence.proofs.Each.{each_at}
+use Rattle.base_library.proofs.Each.{each_at}
 use Rattle.tsl_terms.specs.FormulaTree.{Atom, FormulaTree}
 use Rattle.tsl_terms.specs.Atoms.{atoms}
 use Rattle.tsl_meaning.specs.Lasso.{meets}

@@ -12,7 +12,7 @@ ghost use Rattle.underapprox.specs.LetterLasso.{letter_lasso};
 use crate::making::{all_of, any_of, bit, both, either, next, not_bit, release, until};
 use letter_space::Space;
 use ltl_formula::Ltl;
-use sequence::NoMemory;
+use base_library::NoMemory;
 use std::alloc::Global;
 use tsl_terms::{Formula, FormulaList};
 

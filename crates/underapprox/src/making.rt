@@ -5,7 +5,7 @@ ghost use Rattle.ltl_formula.specs.LtlTree.{ltl_tree, ltl_trees, ltl_formulas_of
 ghost use Rattle.underapprox.specs.LetterForm.{atom_form, not_atom_form, both_of, either_of};
 
 use ltl_formula::{Ltl, LtlList};
-use sequence::NoMemory;
+use base_library::NoMemory;
 use std::alloc::Global;
 
 /// The form of an atom with this bit, if it has one.

@@ -6,11 +6,11 @@ use Rattle.std.specs.List.{find, AllByRecursion}
 use Rattle.std.proofs.lemmas.Option.{slice_get-map}
 use Rattle.std.proofs.lemmas.List.{map-append}
 use Rattle.std.proofs.lemmas.List.Elements.{recursion_from_All}
-use Rattle.sequence.specs.Numbers.{numbers_from}
-use Rattle.sequence.proofs.Numbers.{numbers_at, numbers_more}
-use Rattle.sequence.proofs.Lists.{map_map}
-use Rattle.sequence.proofs.Finds.{found_has}
-use Rattle.sequence.proofs.Each.{each_weaker}
+use Rattle.base_library.specs.Numbers.{numbers_from}
+use Rattle.base_library.proofs.Numbers.{numbers_at, numbers_more}
+use Rattle.base_library.proofs.Lists.{map_map}
+use Rattle.base_library.proofs.Finds.{found_has}
+use Rattle.base_library.proofs.Each.{each_weaker}
 use Rattle.tsl_terms.specs.Name.{Name}
 use Rattle.tsl_meaning.specs.Interpretation.{Interpretation}
 use Rattle.table_syntax.specs.declared.words.Given.{Given}

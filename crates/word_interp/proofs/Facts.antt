@@ -11,11 +11,11 @@ use Rattle.std.proofs.lemmas.Bool.{and_parts, eqb-true, not-false}
 use Rattle.std.proofs.lemmas.List.{length-map}
 use Rattle.std.proofs.lemmas.Option.{slice_get-map, slice_get_within}
 use Rattle.std.proofs.lemmas.List.Elements.{All-from_recursion}
-use Rattle.sequence.specs.Numbers.{is_among, numbers_from}
-use Rattle.sequence.specs.Options.{passes}
-use Rattle.sequence.proofs.Each.{each_joined, each_at, each_unmapped}
-use Rattle.sequence.proofs.Finds.{each_fails, found_has, found_passes}
-use Rattle.sequence.proofs.Numbers.{numbers_at, numbers_below}
+use Rattle.base_library.specs.Numbers.{is_among, numbers_from}
+use Rattle.base_library.specs.Options.{passes}
+use Rattle.base_library.proofs.Each.{each_joined, each_at, each_unmapped}
+use Rattle.base_library.proofs.Finds.{each_fails, found_has, found_passes}
+use Rattle.base_library.proofs.Numbers.{numbers_at, numbers_below}
 use Rattle.tsl_terms.specs.declared.names.NameKind.TheVariants.{Function, Predicate}
 use Rattle.tsl_terms.specs.Name.{Name, same_kind}
 use Rattle.tsl_terms.specs.Equality.{is_equality}

@@ -6,9 +6,9 @@ use Rattle.std.proofs.Math.Nat.{mul-le-mul_left, pow-le-pow_right, pow-suc, pow-
 use Rattle.std.proofs.lemmas.Bool.{and_parts, ltb-true, eqb-true, eq-eqb, cases_lt}
 use Rattle.std.proofs.lemmas.List.{length-map}
 use Rattle.std.proofs.lemmas.Option.{none-some, slice_get-map}
-use Rattle.sequence.specs.Numbers.{numbers_from}
-use Rattle.sequence.proofs.Numbers.{length-numbers, numbers_at}
-use Rattle.sequence.proofs.Places.{slice_get-front, slice_get-append}
+use Rattle.base_library.specs.Numbers.{numbers_from}
+use Rattle.base_library.proofs.Numbers.{length-numbers, numbers_at}
+use Rattle.base_library.proofs.Places.{slice_get-front, slice_get-append}
 use Rattle.tsl_meaning.specs.Interpretation.{are_values, place_of_arguments, entry_of}
 use Rattle.word_interp.specs.Operations.{WordFunction, constant, unary, binary, arity_of, entries_of}
 use Rattle.word_interp.specs.internal.Applied.{applied}

@@ -3,8 +3,8 @@
 use Rattle.std.specs.Prelude.{◌≡◌, ℕ, ◌==◌, ◌<◌, ◌≤◌, ◌^◌, Bool, not, List, length, map, is_some, nat_lt}
 use Rattle.std.specs.Prelude.{Option, Some, None, option_map, option_and_then, slice_get, if◌then◌else◌}
 use Rattle.std.specs.List.{find}
-use Rattle.sequence.specs.Numbers.{numbers_from}
-use Rattle.sequence.specs.Options.{passes}
+use Rattle.base_library.specs.Numbers.{numbers_from}
+use Rattle.base_library.specs.Options.{passes}
 use Rattle.tsl_text.specs.Division.{HasBadByte, HasOpenComment}
 use Rattle.tsl_terms.specs.Name.{Name}
 use Rattle.tsl_meaning.specs.Interpretation.{Interpretation}

@@ -2,7 +2,7 @@
 
 ghost use Rattle.std.specs.Prelude.{◌≡◌, ◌<◌, ◌≤◌, ◌^◌, is_some, option_map, length, map, All, IsTrue, IfOk, IfErr, IfSome};
 ghost use Rattle.std.specs.List.{find, list_all};
-ghost use Rattle.sequence.specs.Numbers.{numbers_from};
+ghost use Rattle.base_library.specs.Numbers.{numbers_from};
 ghost use Rattle.tsl_terms.specs.declared.names.NameKind.TheVariants.{Signal};
 ghost use Rattle.tsl_terms.specs.Name.{is_name};
 ghost use Rattle.tsl_meaning.specs.Interpretation.{IsEqualityOf};
@@ -26,7 +26,7 @@ use crate::operations::{arity_given, given_at, number_in};
 use crate::words::Words;
 use crate::{MOST_BITS, WordError};
 use entry_names::{entry_for, entry_places, needed};
-use sequence::NoMemory;
+use base_library::NoMemory;
 use std::alloc::Global;
 use table_syntax::{Given, WordEntry, WordsText};
 use tsl_terms::{Names, equality_of};

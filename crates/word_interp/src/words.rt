@@ -7,7 +7,7 @@ ghost use Rattle.word_interp.specs.internal.Applied.{given_at};
 
 use crate::operations::{entry_in, given_at, value_in};
 use interp_core::{Algebra, Judge};
-use sequence::{NoMemory, Sequence};
+use base_library::{NoMemory, Sequence};
 use std::alloc::Global;
 use std::marker::Model;
 use table_syntax::Given;

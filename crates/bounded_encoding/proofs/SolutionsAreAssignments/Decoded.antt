@@ -5,8 +5,8 @@ use Rattle.std.specs.List.{range_with_len}
 use Rattle.std.proofs.lemmas.Nat.{and_le_l}
 use Rattle.std.proofs.lemmas.Bool.{eqb-true, false_from_ne_true}
 use Rattle.std.proofs.lemmas.Bool.Decides.{eqb_tells}
-use Rattle.sequence.proofs.Each.{each_from_places, each_map}
-use Rattle.sequence.proofs.Places.{slice_get_mapped, slice_get_one}
+use Rattle.base_library.proofs.Each.{each_from_places, each_map}
+use Rattle.base_library.proofs.Places.{slice_get_mapped, slice_get_one}
 use Rattle.ltl_formula.specs.Cubes.{has_bit, cube_matches}
 use Rattle.letter_space.specs.SpaceTree.{ControlledTree, bit_count}
 use Rattle.letter_space.specs.Letters.{ArePicks, letter_of}

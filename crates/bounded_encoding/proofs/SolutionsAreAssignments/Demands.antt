@@ -3,7 +3,7 @@ use Rattle.std.proofs.Common.{◌≡◌, ◌∙◌, ℕ, ◌+◌, ◌-◌, ◌%�
 use Rattle.std.proofs.Common.{length, Some, slice_get, refl, sym, ap, arith, leb}
 use Rattle.std.proofs.lemmas.Bool.{lt-leb, leb-false}
 use Rattle.std.proofs.lemmas.Option.{none-some}
-use Rattle.sequence.proofs.Passes.{list_all_parts, list_all_joined}
+use Rattle.base_library.proofs.Passes.{list_all_parts, list_all_joined}
 use Rattle.ltl_formula.specs.Cubes.{cube_matches}
 use Rattle.letter_space.specs.SpaceTree.{ControlledTree, bit_count}
 use Rattle.cobuchi_automata.specs.Automata.{EdgeTree}

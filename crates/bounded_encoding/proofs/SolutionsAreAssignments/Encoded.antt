@@ -3,8 +3,8 @@ use Rattle.std.proofs.Common.{◌≡◌, ◌∙◌, ℕ, ◌+◌, ◌-◌, ◌*�
 use Rattle.std.proofs.Common.{length, Option, Some, slice_get, sym, ap, arith}
 use Rattle.std.specs.Option.{option_map_or}
 use Rattle.std.proofs.lemmas.Bool.{eqb-true, eq-eqb}
-use Rattle.sequence.proofs.Each.{each_at}
-use Rattle.sequence.proofs.Places.{slice_get_some}
+use Rattle.base_library.proofs.Each.{each_at}
+use Rattle.base_library.proofs.Places.{slice_get_some}
 use Rattle.ltl_formula.specs.Cubes.{has_bit, cube_matches}
 use Rattle.letter_space.specs.SpaceTree.{ControlledTree}
 use Rattle.letter_space.specs.Letters.{ArePicks, letter_of}

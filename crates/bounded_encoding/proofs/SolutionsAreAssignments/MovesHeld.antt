@@ -2,7 +2,7 @@
 use Rattle.std.proofs.Common.{◌≡◌, ◌∙◌, ℕ, zero, suc, ◌+◌, ◌*◌, ◌<◌, List, [], ◌∷◌, drop, Some, slice_get, get_or, Contains}
 use Rattle.std.proofs.Common.{refl, sym, ap, arith}
 use Rattle.std.proofs.lemmas.Option.{none-some, same_Some, slice_get-get_or}
-use Rattle.sequence.proofs.Places.{slice_get-take, slice_get-drop, slice_get_taken}
+use Rattle.base_library.proofs.Places.{slice_get-take, slice_get-drop, slice_get_taken}
 use Rattle.letter_space.specs.SpaceTree.{SpaceTree}
 use Rattle.letter_space.specs.Letters.{letter_of}
 use Rattle.machines.specs.MachineTree.{EntryTree, ControllerTree}

@@ -4,8 +4,8 @@ use Rattle.std.proofs.Common.{sym, ap, subst, arith, mul_comm}
 use Rattle.std.proofs.lemmas.List.{map_push, length-map}
 use Rattle.std.proofs.lemmas.List.FromFn.{map-range_with_len_more, length-map-range_with_len}
 use Rattle.std.proofs.Math.Nat.{div-add-mod}
-use Rattle.sequence.proofs.Lists.{map_agree, map_map}
-use Rattle.sequence.proofs.Places.{slice_get_mapped}
+use Rattle.base_library.proofs.Lists.{map_agree, map_map}
+use Rattle.base_library.proofs.Places.{slice_get_mapped}
 use Rattle.machines.specs.declared.controller.Entry.{Entry}
 use Rattle.machines.specs.MachineTree.{EntryTree, NameStates}
 use Rattle.machines.specs.MachineView.{entry_tree}

@@ -1,7 +1,7 @@
 -- Internal: only private functions of this crate use these words.
 -- The arguments of predicate terms, one after the other, and their labels.
 use Rattle.std.specs.Prelude.{◌≡◌, ℕ, suc, List, length, map, take, drop, flat_map, Some, slice_get}
-use Rattle.sequence.specs.Numbers.{numbers_from}
+use Rattle.base_library.specs.Numbers.{numbers_from}
 use Rattle.tsl_terms.specs.TermTree.{TermTree, ProbeTree, terms_in, count_of_terms}
 
 -- the arguments of probes, one after the other

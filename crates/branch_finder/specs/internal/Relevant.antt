@@ -3,7 +3,7 @@
 -- Source: the cone of influence, as in Clarke, Grumberg, Peled: Model Checking (MIT Press 1999).
 use Rattle.std.specs.Prelude.{◌≡◌, ℕ, true, false, not, List}
 use Rattle.std.specs.List.{AllByRecursion, filter}
-use Rattle.sequence.specs.Numbers.{is_among}
+use Rattle.base_library.specs.Numbers.{is_among}
 use Rattle.tsl_terms.specs.Signals.{term_reads, some_term_reads}
 use Rattle.letter_space.specs.SpaceTree.{SpaceTree}
 

@@ -3,7 +3,7 @@
 use Rattle.std.specs.Prelude.{◌≡◌, ℕ, ◌<◌, ◌≤◌, true, List, [], ◌∷◌, Option, Some, slice_get, ⊤, IsTrue}
 use Rattle.std.specs.Prelude.{length as count_of}
 use Rattle.std.specs.List.{AllByRecursion}
-use Rattle.sequence.specs.Numbers.{is_among}
+use Rattle.base_library.specs.Numbers.{is_among}
 use Rattle.tsl_terms.specs.TermTree.{ProbeTree}
 use Rattle.tsl_terms.specs.WindowTree.{ListedTree, EquatedTree, WindowTree}
 use Rattle.tsl_terms.specs.Congruence.{IsCongruent}

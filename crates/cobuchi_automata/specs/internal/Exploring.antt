@@ -17,7 +17,7 @@ use Rattle.cobuchi_automata.specs.Edges.{edge_trees}
 use Rattle.cobuchi_automata.specs.Counters.{passes_last, advanced}
 use Rattle.cobuchi_automata.specs.Automata.{StateTree, EdgeTree, untils_of, start_state, IsReached, Leads, IsOfChoice}
 use Rattle.cobuchi_automata.specs.Refusals.{most_automaton_states, most_automaton_edges}
-use Rattle.sequence.specs.Once.{StandOnce}
+use Rattle.base_library.specs.Once.{StandOnce}
 
 -- a state over numbers
 pub record StateKey : Type 0 where

@@ -1,7 +1,7 @@
 -- Internal: only private functions of this crate use these words. The nodes of parts.
 use Rattle.std.specs.Prelude.{◌≡◌, ℕ, ◌<◌, ◌^◌, ◌==◌, List, map, length, Option, Some, slice_get, option_map, option_and_then}
 use Rattle.std.specs.Prelude.{position, IsTrue}
-use Rattle.sequence.specs.Numbers.{is_among}
+use Rattle.base_library.specs.Numbers.{is_among}
 use Rattle.program_tree.specs.NodeTree.{NodeTree, branch, assign}
 use Rattle.letter_space.specs.SpaceTree.{SpaceTree}
 use Rattle.letter_space.specs.Letters.{ArePicks}

@@ -1,7 +1,7 @@
 -- Internal: only private functions of this crate use these words. Trees over numbers: the parts of trees are numbered, and a fork names
 -- the numbers of its branches.
 use Rattle.std.specs.Prelude.{◌≡◌, ℕ, ◌==◌, Bool, false, ◌&&◌, List, [], ◌++◌, map, length, Some, slice_get}
-use Rattle.sequence.specs.Kept.{with_new}
+use Rattle.base_library.specs.Kept.{with_new}
 use Rattle.letter_space.specs.SpaceTree.{SpaceTree}
 use Rattle.machines.specs.MachineTree.{EntryTree, ControllerTree, controller_entry}
 use Rattle.control_flow_model.specs.declared.parting.Part.{Part}

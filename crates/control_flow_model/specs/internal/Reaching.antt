@@ -1,7 +1,7 @@
 -- Internal: only private functions of this crate use these words. The states that are found while those of a controller are reached.
 use Rattle.std.specs.Prelude.{◌≡◌, ℕ, ◌<◌, ◌≤◌, List, length, Some, slice_get, nat_eq}
 use Rattle.std.specs.List.{IsDistinct}
-use Rattle.sequence.specs.Kept.{with_new}
+use Rattle.base_library.specs.Kept.{with_new}
 use Rattle.machines.specs.MachineTree.{EntryTree, ControllerTree, controller_entry}
 use Rattle.control_flow_model.specs.Flow.{IsReachable}
 

@@ -7,15 +7,15 @@ use Rattle.std.specs.Prelude.{Option, Some, None, option_map, nat_le, nat_lt, co
 use Rattle.std.specs.List.{list_all, AllByRecursion}
 use Rattle.std.proofs.lemmas.Bool.{and_from, and_parts, not-true, lt-ltb, ltb-true, leb-true, eqb-true}
 use Rattle.std.proofs.lemmas.List.Folds.{list_all-map}
-use Rattle.sequence.proofs.Bytes.{bytes_same}
-use Rattle.sequence.proofs.Each.{each_joined, each_both, each_weaker}
-use Rattle.sequence.proofs.Gathered.{all_there_next}
-use Rattle.sequence.specs.Options.{all_there}
+use Rattle.base_library.proofs.Bytes.{bytes_same}
+use Rattle.base_library.proofs.Each.{each_joined, each_both, each_weaker}
+use Rattle.base_library.proofs.Gathered.{all_there_next}
+use Rattle.base_library.specs.Options.{all_there}
 use Rattle.tsl_terms.specs.declared.names.NameKind.TheVariants.{Signal}
 use Rattle.tsl_terms.specs.Name.{is_name, AreDistinct, Name as NameEntry}
 use Rattle.tsl_terms.specs.TermTree.{TermTree, ProbeTree}
-use Rattle.sequence.proofs.Passes.{list_all_parts, each_from_list_all}
-use Rattle.sequence.specs.Numbers.{is_among}
+use Rattle.base_library.proofs.Passes.{list_all_parts, each_from_list_all}
+use Rattle.base_library.specs.Numbers.{is_among}
 use Rattle.tsl_terms.specs.WindowTree.{WindowTree, ListedTree, EquatedTree, left_probes, window_probes}
 use Rattle.tsl_terms.specs.WellFormed.{is_usable_at, term_fits, brackets, deepest}
 use Rattle.tsl_terms.specs.OnlyThese.{reads_only, read_only}

@@ -8,9 +8,9 @@ use Rattle.std.specs.Option.{is_some, option_map_or}
 use Rattle.std.proofs.lemmas.Bool.{and_from, lt-ltb, le-ltb}
 use Rattle.std.proofs.lemmas.List.{append-nil}
 use Rattle.std.proofs.lemmas.List.Folds.{list_all-append}
-use Rattle.sequence.proofs.Each.{each_joined, each_at, each_from_places, each_weaker, each_left, each_right, each_unmapped, each_flat_map}
-use Rattle.sequence.proofs.Numbers.{among_place}
-use Rattle.sequence.specs.Numbers.{IsDistinct}
+use Rattle.base_library.proofs.Each.{each_joined, each_at, each_from_places, each_weaker, each_left, each_right, each_unmapped, each_flat_map}
+use Rattle.base_library.proofs.Numbers.{among_place}
+use Rattle.base_library.specs.Numbers.{IsDistinct}
 use Rattle.tsl_terms.specs.Name.{number_of, AreDistinct, Name as NameEntry}
 use Rattle.tsl_terms.specs.Clashes.{with_uses, added_unless_found, alike_in_kind, same_arity}
 use Rattle.tsl_terms.specs.WindowTree.{WindowTree, EquatedTree, right_alone}
@@ -35,12 +35,12 @@ use Rattle.flow_program.specs.Rules.{breaks_window, cell_texts, readable_of, con
 use Rattle.flow_program.specs.Rules.{is_unknown, is_unlike, at_line, at_use, first_there, line_fault, use_fault, limit_fault}
 use Rattle.flow_program.specs.Rules.{fault_of}
 use Rattle.std.proofs.lemmas.Option.{none-some, same_Some, slice_get-map}
-use Rattle.sequence.proofs.Booleans.{eqb_self}
-use Rattle.sequence.proofs.Places.{slice_get_grown, slice_get_some}
-use Rattle.sequence.proofs.Finds.{find_none}
-use Rattle.sequence.proofs.Places.{slice_get_mapped}
-use Rattle.sequence.proofs.Passes.{list_all_parts}
-use Rattle.sequence.proofs.Passes.{passes_at}
+use Rattle.base_library.proofs.Booleans.{eqb_self}
+use Rattle.base_library.proofs.Places.{slice_get_grown, slice_get_some}
+use Rattle.base_library.proofs.Finds.{find_none}
+use Rattle.base_library.proofs.Places.{slice_get_mapped}
+use Rattle.base_library.proofs.Passes.{list_all_parts}
+use Rattle.base_library.proofs.Passes.{passes_at}
 use Rattle.tsl_terms.specs.declared.names.NameKind.{NameKind}
 use Rattle.tsl_terms.specs.declared.names.NameKind.TheVariants.{Signal, Function, Predicate}
 use Rattle.tsl_terms.specs.Name.{same_kind}
@@ -63,9 +63,9 @@ use Rattle.flow_program.proofs.WrittenIsRead.ListingOfLines.{states_part, states
 use Rattle.flow_program.proofs.NumberLemmas.{Parts, parts_of, small_same, there_at, numbered_texts}
 use Rattle.flow_program.specs.internal.Numbering.{numbered, numbered_test, numbered_left}
 use Rattle.flow_program.specs.internal.Numbering.{numbered_window, numbered_node}
-use Rattle.sequence.specs.Options.{all_there}
-use Rattle.sequence.proofs.Gathered.{length-all_there}
-use Rattle.sequence.proofs.Options.{some_mapped}
+use Rattle.base_library.specs.Options.{all_there}
+use Rattle.base_library.proofs.Gathered.{length-all_there}
+use Rattle.base_library.proofs.Options.{some_mapped}
 use Rattle.std.proofs.lemmas.List.{length-map}
 use Rattle.tsl_terms.specs.Equality.{equality_in}
 use Rattle.tsl_terms.specs.Congruence.{IsEquality}

@@ -6,10 +6,10 @@ use Rattle.std.specs.Option.{option_map_or}
 use Rattle.std.specs.Str.{bytes_eq}
 use Rattle.std.proofs.lemmas.Bool.{and_parts, or_cases, eqb-true}
 use Rattle.std.proofs.lemmas.Option.{none-some}
-use Rattle.sequence.proofs.Bytes.{same_bytes}
-use Rattle.sequence.proofs.Each.{each_joined}
-use Rattle.sequence.proofs.Places.{slice_get_mapped}
-use Rattle.sequence.specs.Numbers.{is_among}
+use Rattle.base_library.proofs.Bytes.{same_bytes}
+use Rattle.base_library.proofs.Each.{each_joined}
+use Rattle.base_library.proofs.Places.{slice_get_mapped}
+use Rattle.base_library.specs.Numbers.{is_among}
 use Rattle.tsl_text.specs.Names.{is_usable}
 use Rattle.tsl_terms.specs.declared.names.NameKind.{NameKind}
 use Rattle.tsl_terms.specs.declared.names.NameKind.TheVariants.{Signal, Function, Predicate}
@@ -21,7 +21,7 @@ use Rattle.tsl_terms.specs.OnlyThese.{reads_only, read_only}
 use Rattle.tsl_terms.proofs.FirstUses.{first_some, not_found}
 use Rattle.term_text.specs.TermText.{name_text, argument_text, applied_text, term_text, arguments_text, application_text, question_text}
 use Rattle.term_text.specs.TermText.{probe_text}
-use Rattle.sequence.proofs.Options.{some_passes}
+use Rattle.base_library.proofs.Options.{some_passes}
 use Rattle.program_listing.specs.declared.listing.Name.{Name as Place}
 use Rattle.program_tree.specs.Writable.{probe_is_writable}
 use Rattle.tsl_terms.specs.WellFormed.{deepest}

@@ -1,7 +1,7 @@
 -- Internal: only private functions of this crate use these words.
 -- Lines with numbers in the place of names.
 use Rattle.std.specs.Prelude.{◌≡◌, ℕ, ◌^◌, nat_lt, cond, List, map, Option, Some, None, option_map, option_and_then}
-use Rattle.sequence.specs.Options.{all_there}
+use Rattle.base_library.specs.Options.{all_there}
 use Rattle.tsl_terms.specs.Name.{number_of, question, Name as NameEntry}
 use Rattle.tsl_terms.specs.TermTree.{TermTree, signal, apply, TermTrees, no_terms, more_terms, ProbeTree}
 use Rattle.tsl_terms.specs.WindowTree.{WindowTree, ListedTree, EquatedTree}

@@ -1,7 +1,7 @@
 -- Internal: only private functions of this crate use these words.
 -- Free terms whose leaves are signals of a list, at steps below a limit.
 use Rattle.std.specs.Prelude.{ℕ, Bool, true, ◌&&◌, List, nat_lt}
-use Rattle.sequence.specs.Numbers.{is_among}
+use Rattle.base_library.specs.Numbers.{is_among}
 use Rattle.tsl_terms.specs.FreeTree.{FreeTree, leaf_at, applied, FreeTrees, no_free, more_free}
 
 abbrev mutual

@@ -2,7 +2,7 @@
 use Rattle.std.specs.Prelude.{ℕ, ◌≤◌, ⊤, ◌==◌, Bool, false, pos, List, [], ◌∷◌, ◌++◌, map}
 use Rattle.std.specs.Prelude.{length, find, filter_map, Option, Some, None, option_map}
 use Rattle.clause_core.specs.Literals.{Lit, signed_number_of}
-use Rattle.sequence.specs.Options.{all_there}
+use Rattle.base_library.specs.Options.{all_there}
 use Rattle.tsl_text.specs.Lines.{NumberedLine}
 use Rattle.tsl_text.specs.Numbers.{signed_number_in}
 use Rattle.refutation_check.specs.LogText.{LogAnswer, is_log, form_at, step_of_numbers, are_deleted, line_answer, is_wrong, step_in}

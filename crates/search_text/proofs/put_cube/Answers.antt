@@ -1,8 +1,8 @@
 use Rattle.std.proofs.Common.{◌≡◌, ℕ, suc, ◌+◌, ◌-◌, ◌<◌, ◌≤◌, Bool, true, false, cond, List, [], ◌∷◌, ◌++◌, map, codes, refl, ap, sym, ◌∙◌, append_assoc, add-one, arith, subst}
 use Rattle.std.specs.Prelude.{filter, flat_map, OnOk}
 use Rattle.std.proofs.lemmas.List.{append-nil}
-use Rattle.sequence.specs.Numbers.{numbers_from}
-use Rattle.sequence.proofs.Lists.{written_step}
+use Rattle.base_library.specs.Numbers.{numbers_from}
+use Rattle.base_library.proofs.Lists.{written_step}
 use Rattle.ltl_formula.specs.Cubes.{has_bit}
 use Rattle.refutation_text.specs.Written.{literal_word, clause_line}
 use Rattle.search_text.specs.SearchTexts.{bit_literal, asked_literals}

@@ -1,6 +1,6 @@
 -- What is written and what is left make the whole.
 use Rattle.std.proofs.Common.{◌≡◌, ◌-◌, ◌++◌}
-use Rattle.sequence.specs.Numbers.{numbers_from}
+use Rattle.base_library.specs.Numbers.{numbers_from}
 use Rattle.refutation_text.specs.Written.{clause_line}
 use Rattle.search_text.specs.SearchTexts.{asked_literals, cube_literals}
 use Rattle.search_text.proofs.put_cube.Given as goal

@@ -1,5 +1,5 @@
 use Rattle.std.proofs.Common.{◌≡◌, ℕ, ◌+◌, ◌<◌, length, get_or, drop, List, ◌++◌, map, codes, ap, ◌∙◌, append_assoc}
-use Rattle.sequence.proofs.Lists.{written_step, left_at}
+use Rattle.base_library.proofs.Lists.{written_step, left_at}
 use Rattle.tsl_text.specs.Written.{text_of_lines}
 use Rattle.cobuchi_automata.specs.declared.automaton.Edge.{Edge}
 use Rattle.cobuchi_automata.specs.Edges.{edge_tree, edge_trees}

@@ -1,8 +1,8 @@
 -- Internal: only private functions of this crate use these words.
 use Rattle.std.specs.Prelude.{◌≡◌, ℕ, Bool, List, codes}
 use Rattle.clause_core.specs.Literals.{Lit}
-use Rattle.tool_ends.specs.declared.status.Status.TheVariants.{Done as Satisfiable, No as Unsatisfiable, Spent as Unknown}
-use Rattle.tool_ends.specs.declared.reply.Reply.{Reply}
+use Rattle.tool_io.specs.declared.status.Status.TheVariants.{Done as Satisfiable, No as Unsatisfiable, Spent as Unknown}
+use Rattle.tool_io.specs.declared.reply.Reply.{Reply}
 use Rattle.solve_tool.specs.Outcome.{TellsUnsatisfiable}
 use Rattle.solve_tool.specs.Values.{satisfiable_text}
 

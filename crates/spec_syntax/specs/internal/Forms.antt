@@ -3,7 +3,7 @@
 use Rattle.std.specs.Prelude.{Option, None, Some}
 use Rattle.spec_syntax.specs.declared.formulas.Form.{Form}
 use Rattle.spec_syntax.specs.declared.formulas.Form.TheVariants.{Prefix, Right, Formula}
-use Rattle.token_readers.specs.Readers.{Reader, map_read}
+use Rattle.reader_combinators.specs.Readers.{Reader, map_read}
 use Rattle.spec_syntax.specs.Syntax.{Terminal, TermSyntax, FormulaSyntax}
 use Rattle.spec_syntax.specs.Reading.{Level, above, beyond, bracketed_term}
 

@@ -4,7 +4,7 @@ use Rattle.std.specs.Prelude.{◌≡◌, ℕ, List, map, codes, Option, Some, No
 use Rattle.std.specs.Str.{bytes_eq}
 use Rattle.std.specs.Borrow.{Bor}
 use Rattle.std.specs.declared.alloc.Global.{Global}
-use Rattle.token_readers.specs.Readers.{Answer, Reader, form, deep}
+use Rattle.reader_combinators.specs.Readers.{Answer, Reader, form, deep}
 use Rattle.spec_syntax.specs.declared.fault.ReadFault.{ReadFault}
 use Rattle.spec_syntax.specs.declared.fault.ReadFault.TheVariants.{Form, Deep, NoMemory}
 use Rattle.spec_syntax.specs.declared.syntax.Word.{Word}

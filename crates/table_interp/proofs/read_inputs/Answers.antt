@@ -4,7 +4,7 @@ use Rattle.tsl_meaning.specs.Interpretation.{rows_of}
 use Rattle.table_syntax.specs.View.{inputs_view}
 use Rattle.table_interp.proofs.Loops.{are_loop}
 use Rattle.table_syntax.proofs.Readings.{has_cycle}
-use Rattle.sequence.proofs.Results.{handed_on}
+use Rattle.base_library.proofs.Results.{handed_on}
 use Rattle.table_interp.proofs.OneInputCause.{inputs_refused}
 use Rattle.table_interp.proofs.Refusals.{input_form_cause, row_cause}
 use Rattle.table_interp.proofs.read_inputs.Goals as goal

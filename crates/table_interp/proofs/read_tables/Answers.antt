@@ -6,7 +6,7 @@ use Rattle.table_syntax.specs.View.{tables_view}
 use Rattle.table_interp.proofs.Facts.{interprets}
 use Rattle.entry_names.proofs.NeededNames.{cells_within}
 use Rattle.table_syntax.proofs.Readings.{has_value}
-use Rattle.sequence.proofs.Results.{handed_on}
+use Rattle.base_library.proofs.Results.{handed_on}
 use Rattle.table_interp.proofs.OneTableCause.{tables_refused}
 use Rattle.table_interp.proofs.Refusals.{form_cause, entry_cause}
 use Rattle.table_interp.proofs.read_tables.Goals as goal

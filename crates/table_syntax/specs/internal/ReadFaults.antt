@@ -1,7 +1,7 @@
 -- Internal: only private functions of this crate use these words.
 -- The faults of readers, and the answers that have them.
 use Rattle.std.specs.Prelude.{◌≡◌, Err}
-use Rattle.token_readers.specs.Readers.{Answer, form}
+use Rattle.reader_combinators.specs.Readers.{Answer, form}
 use Rattle.table_syntax.specs.declared.reading.ReadFault.{ReadFault}
 use Rattle.table_syntax.specs.declared.reading.ReadFault.TheVariants.{Form, NoMemory}
 use Rattle.table_syntax.specs.Syntax.{TextToken}

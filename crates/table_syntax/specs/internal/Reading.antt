@@ -4,7 +4,7 @@
 use Rattle.std.specs.Prelude.{ℕ, zero, suc, List, [], ◌∷◌, codes, Option, Some, None, option_map, option_and_then, Ok, if◌then◌else◌}
 use Rattle.tsl_terms.specs.declared.names.NameKind.{NameKind}
 use Rattle.tsl_terms.specs.declared.names.NameKind.TheVariants.{Signal, Function, Predicate}
-use Rattle.token_readers.specs.Readers.{Answer, Reader, and_then, map_read, members, taking, at_end}
+use Rattle.reader_combinators.specs.Readers.{Answer, Reader, and_then, map_read, members, taking, at_end}
 use Rattle.table_syntax.specs.declared.words.Operation.{Operation as WordOperation}
 use Rattle.table_syntax.specs.declared.words.Operation.TheVariants.{Const}
 use Rattle.table_syntax.specs.declared.words.Given.{Given}

@@ -1,7 +1,7 @@
 use Rattle.std.proofs.Common.{◌≡◌, ℕ, ◌+◌, ◌<◌, Bool, length, get_or, drop, List, ◌++◌, map, ap, sym, ◌∙◌, add-one, subst, IsTrue}
 use Rattle.std.specs.List.{list_all}
-use Rattle.sequence.proofs.Passes.{map_passes_within}
-use Rattle.sequence.proofs.Lists.{written_step, left_at}
+use Rattle.base_library.proofs.Passes.{map_passes_within}
+use Rattle.base_library.proofs.Lists.{written_step, left_at}
 use Rattle.tsl_terms.specs.Name.{Name}
 use Rattle.tsl_meaning.specs.declared.run.Position.{Position}
 use Rattle.tsl_meaning.specs.RunTree.{RunTree, position_tree, run_tree}

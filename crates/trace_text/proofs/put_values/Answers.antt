@@ -4,8 +4,8 @@ use Rattle.std.specs.Prelude.{decimal}
 use Rattle.std.proofs.lemmas.List.{drop_more, drop_all, length_push, append-nil}
 use Rattle.std.proofs.lemmas.Bool.{cases_lt}
 use Rattle.std.proofs.lemmas.Slice.Zip.{zip_turn, zip_end}
-use Rattle.sequence.proofs.Passes.{passes_within}
-use Rattle.sequence.proofs.Lists.{written_step}
+use Rattle.base_library.proofs.Passes.{passes_within}
+use Rattle.base_library.proofs.Lists.{written_step}
 use Rattle.tsl_terms.specs.Name.{Name}
 use Rattle.term_text.specs.TermText.{name_text, is_held}
 use Rattle.trace_text.specs.TraceText.{values_text}

@@ -1,4 +1,4 @@
-use Rattle.sequence.proofs.Results.{handed_on}
+use Rattle.base_library.proofs.Results.{handed_on}
 use Rattle.tsl_terms.specs.SpecView.{spec_tree}
 use Rattle.tsl_reader.specs.declared.SpecError.TheVariants.{Nodes}
 use Rattle.tsl_reader.proofs.OneCause.{cause_refuses}

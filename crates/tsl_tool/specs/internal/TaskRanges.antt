@@ -4,7 +4,7 @@ use Rattle.std.specs.Prelude.{◌≤◌}
 use Rattle.command_words.specs.declared.task.Task.{Task}
 use Rattle.command_words.specs.declared.task.Task.TheVariants.{Synth, Check, Run, Prove, Recheck, Gen, Circuit, Automaton, Accepts}
 use Rattle.refinement_loop.specs.Outcomes.{IsInRange}
-use Rattle.search_replies.specs.QuestionRanges.{IsQuestionInRange}
+use Rattle.synthesis_commands.specs.QuestionRanges.{IsQuestionInRange}
 use Rattle.tsl_tool.specs.Tasks.{search_sizes}
 
 abbrev pub IsTaskInRange : Task → Type 0

@@ -3,7 +3,7 @@ use Rattle.std.proofs.lemmas.Result.{IfOk-weaker, IfErr-weaker}
 use Rattle.table_syntax.specs.View.{words_view}
 use Rattle.word_interp.specs.declared.WordError.TheVariants.{Width}
 use Rattle.word_interp.proofs.Facts.{interprets}
-use Rattle.sequence.proofs.Results.{handed_on}
+use Rattle.base_library.proofs.Results.{handed_on}
 use Rattle.word_interp.proofs.OneCause.{words_refused}
 use Rattle.word_interp.proofs.Refusals.{form_cause, entry_cause}
 use Rattle.table_syntax.proofs.Readings.{has_bit}

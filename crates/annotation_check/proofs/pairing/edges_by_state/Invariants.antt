@@ -1,5 +1,5 @@
 use Rattle.std.proofs.Common.{◌≡◌, map, take}
-use Rattle.sequence.specs.Numbers.{numbers_from}
+use Rattle.base_library.specs.Numbers.{numbers_from}
 use Rattle.cobuchi_automata.specs.Edges.{edge_trees}
 use Rattle.annotation_check.specs.Annotations.{edges_from}
 use Rattle.annotation_check.specs.EdgeLists.{edge_lists}

@@ -1,5 +1,5 @@
 use Rattle.std.proofs.Common.{◌≡◌, [], map}
-use Rattle.sequence.specs.Numbers.{numbers_from}
+use Rattle.base_library.specs.Numbers.{numbers_from}
 use Rattle.annotation_check.specs.Annotations.{edges_from}
 use Rattle.annotation_check.specs.EdgeLists.{edge_lists}
 use Rattle.annotation_check.proofs.pairing.empty_lists.Given as goal

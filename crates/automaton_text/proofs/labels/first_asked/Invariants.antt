@@ -1,7 +1,7 @@
 -- No bit so far is asked for.
 use Rattle.std.proofs.Common.{◌≡◌, ◌-◌}
 use Rattle.std.specs.Prelude.{filter}
-use Rattle.sequence.specs.Numbers.{numbers_from}
+use Rattle.base_library.specs.Numbers.{numbers_from}
 use Rattle.ltl_formula.specs.Cubes.{has_bit}
 use Rattle.automaton_text.specs.HoaText.{bits_asked}
 use Rattle.automaton_text.proofs.labels.first_asked.Given as goal

@@ -1,7 +1,7 @@
 -- What is written and what is left make the whole.
 use Rattle.std.proofs.Common.{◌≡◌, ◌-◌, ◌++◌, map}
 use Rattle.std.specs.Prelude.{filter, flat_map, codes}
-use Rattle.sequence.specs.Numbers.{numbers_from}
+use Rattle.base_library.specs.Numbers.{numbers_from}
 use Rattle.ltl_formula.specs.Cubes.{has_bit}
 use Rattle.automaton_text.specs.HoaText.{literal_text}
 use Rattle.automaton_text.proofs.labels.put_further.Given as goal

@@ -1,4 +1,4 @@
-use Rattle.sequence.proofs.Results.{on_ok_two}
+use Rattle.base_library.proofs.Results.{on_ok_two}
 use Rattle.automaton_text.proofs.Writing.{label_written}
 use Rattle.automaton_text.proofs.labels.put_label.Goals as goal
 

@@ -1,6 +1,6 @@
 use Rattle.std.proofs.Common.{◌∙◌, ◌++◌, ap, map}
 use Rattle.std.specs.Prelude.{flat_map}
-use Rattle.sequence.proofs.Results.{on_ok_two}
+use Rattle.base_library.proofs.Results.{on_ok_two}
 use Rattle.tsl_terms.specs.TermTree.{probe_tree}
 use Rattle.term_text.specs.TermText.{probe_text}
 use Rattle.letter_space.specs.ControlledView.{controlled_tree}

@@ -1,5 +1,5 @@
 use Rattle.std.proofs.Common.{IsTrue, sym, subst}
-use Rattle.sequence.proofs.Passes.{map_passes_within}
+use Rattle.base_library.proofs.Passes.{map_passes_within}
 use Rattle.tsl_terms.specs.declared.term.Term.{Term}
 use Rattle.tsl_terms.specs.TermTree.{term_tree}
 use Rattle.term_text.specs.TermText.{term_is_held}

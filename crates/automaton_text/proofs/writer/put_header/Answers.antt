@@ -1,4 +1,4 @@
-use Rattle.sequence.proofs.Results.{on_ok_two}
+use Rattle.base_library.proofs.Results.{on_ok_two}
 use Rattle.automaton_text.proofs.Writing.{seven}
 use Rattle.automaton_text.proofs.writer.put_header.Goals as goal
 

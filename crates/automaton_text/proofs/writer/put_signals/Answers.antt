@@ -3,7 +3,7 @@ use Rattle.tsl_terms.specs.Name.{Name}
 use Rattle.std.proofs.Common.{IsTrue, sym, subst, map}
 use Rattle.std.specs.List.{list_all}
 use Rattle.std.proofs.lemmas.Bool.{and_parts}
-use Rattle.sequence.proofs.Passes.{map_passes_within}
+use Rattle.base_library.proofs.Passes.{map_passes_within}
 use Rattle.tsl_terms.specs.TermTree.{term_tree}
 use Rattle.term_text.specs.TermText.{is_held, term_is_held}
 use Rattle.letter_space.specs.declared.controlled.Controlled.{Controlled}

@@ -1,5 +1,5 @@
 use Rattle.std.proofs.Common.{◌≡◌, map, take}
-use Rattle.sequence.specs.Numbers.{numbers_from}
+use Rattle.base_library.specs.Numbers.{numbers_from}
 use Rattle.tsl_terms.specs.TermTree.{term_tree}
 use Rattle.letter_space.specs.SpaceView.{space_tree}
 use Rattle.branch_finder.specs.internal.Arguments.{arguments_of, start_of}

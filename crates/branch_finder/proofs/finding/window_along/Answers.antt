@@ -1,6 +1,6 @@
 use Rattle.std.proofs.Common.{◌≡◌, ◌∙◌, List, length, map, sym, ap, subst}
 use Rattle.std.specs.List.{AllByRecursion}
-use Rattle.sequence.proofs.Each.{each_weaker}
+use Rattle.base_library.proofs.Each.{each_weaker}
 use Rattle.tsl_terms.specs.declared.window.Equated.{Equated}
 use Rattle.tsl_terms.specs.TermTree.{count_of_terms}
 use Rattle.tsl_terms.specs.WindowTree.{EquatedTree, equated_tree, window_tree}

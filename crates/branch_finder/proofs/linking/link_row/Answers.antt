@@ -1,6 +1,6 @@
 use Rattle.std.proofs.Common.{◌∙◌, ◌<◌, ◌+◌, ◌==◌, ◌||◌, length, get_or, sym, ap, arith}
 use Rattle.std.proofs.lemmas.Option.{slice_get-get_or}
-use Rattle.sequence.proofs.Each.{each_at}
+use Rattle.base_library.proofs.Each.{each_at}
 use Rattle.lane_planes.specs.Planes.{has_bit}
 use Rattle.machines.specs.MachineView.{environment_tree}
 use Rattle.branch_finder.specs.internal.Planes.{GoesUnder}

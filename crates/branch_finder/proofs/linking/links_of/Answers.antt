@@ -1,7 +1,7 @@
 use Rattle.std.proofs.Common.{◌≡◌, ◌∙◌, ℕ, length, Some, slice_get, get_or, ap, subst, sym, arith, List, [], ◌∷◌, length-append}
 use Rattle.std.proofs.lemmas.Option.{none-some}
 use Rattle.std.proofs.lemmas.Option.{slice_get-get_or}
-use Rattle.sequence.proofs.Places.{slice_get_one}
+use Rattle.base_library.proofs.Places.{slice_get_one}
 use Rattle.letter_space.specs.SpaceView.{space_tree}
 use Rattle.machines.specs.MachineView.{environment_tree}
 use Rattle.branch_finder.specs.internal.Planes.{AreLinks}

@@ -1,6 +1,6 @@
 use Rattle.std.proofs.Common.{◌∙◌, false, slice_get, sym, ap}
 use Rattle.std.specs.Option.{option_map_or}
-use Rattle.sequence.proofs.Numbers.{numbers_passed_more}
+use Rattle.base_library.proofs.Numbers.{numbers_passed_more}
 use Rattle.lane_planes.specs.Planes.{has_bit, is_match}
 use Rattle.branch_finder.proofs.PlaneLemmas.{written}
 use Rattle.branch_finder.proofs.linking.vectors_with.Goals as goal

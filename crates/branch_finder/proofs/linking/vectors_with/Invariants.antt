@@ -1,6 +1,6 @@
 use Rattle.std.proofs.Common.{◌≡◌, false, filter, slice_get}
 use Rattle.std.specs.Option.{option_map_or}
-use Rattle.sequence.specs.Numbers.{numbers_from}
+use Rattle.base_library.specs.Numbers.{numbers_from}
 use Rattle.lane_planes.specs.Planes.{is_match}
 use Rattle.branch_finder.proofs.linking.vectors_with.Given as goal
 

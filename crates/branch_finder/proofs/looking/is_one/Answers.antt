@@ -1,6 +1,6 @@
 use Rattle.std.proofs.Common.{◌∙◌, length, map, sym, subst, arith}
 use Rattle.std.proofs.lemmas.Bool.{false≢true}
-use Rattle.sequence.proofs.Places.{slice_get_some, slice_get_one}
+use Rattle.base_library.proofs.Places.{slice_get_some, slice_get_one}
 use Rattle.tsl_terms.specs.TermTree.{probe_tree}
 use Rattle.tsl_terms.specs.Congruence.{IsEquality}
 use Rattle.letter_space.specs.SpaceView.{space_tree}

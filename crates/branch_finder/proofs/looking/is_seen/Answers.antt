@@ -1,7 +1,7 @@
 use Rattle.std.proofs.Common.{map, arith}
 use Rattle.std.proofs.lemmas.Bool.{false≢true}
 use Rattle.std.proofs.lemmas.List.{length-map}
-use Rattle.sequence.proofs.Places.{slice_get_some}
+use Rattle.base_library.proofs.Places.{slice_get_some}
 use Rattle.tsl_terms.specs.TermTree.{probe_tree}
 use Rattle.branch_finder.proofs.LoopFacts.{false_is_not_true}
 use Rattle.branch_finder.proofs.looking.is_seen.Goals as goal

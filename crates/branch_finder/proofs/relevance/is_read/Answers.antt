@@ -1,6 +1,6 @@
 use Rattle.std.proofs.Common.{◌∙◌, ◌&&◌, not, List, sym, ap}
 use Rattle.std.specs.List.{list_any}
-use Rattle.sequence.specs.Numbers.{is_among}
+use Rattle.base_library.specs.Numbers.{is_among}
 use Rattle.tsl_terms.specs.declared.term.Probe.{Probe}
 use Rattle.tsl_terms.specs.TermTree.{term_tree, probe_tree}
 use Rattle.tsl_terms.specs.Signals.{term_reads, some_term_reads}

@@ -1,5 +1,5 @@
 use Rattle.std.proofs.Common.{◌∙◌, ◌∷◌, ◌++◌, [], sym, ap}
-use Rattle.sequence.specs.Numbers.{is_among}
+use Rattle.base_library.specs.Numbers.{is_among}
 use Rattle.letter_space.specs.SpaceView.{space_tree}
 use Rattle.branch_finder.proofs.SetsMade.{sets_same, sets_more}
 use Rattle.branch_finder.proofs.sets.add_set.Goals as goal

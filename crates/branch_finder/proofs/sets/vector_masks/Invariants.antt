@@ -1,5 +1,5 @@
 use Rattle.std.proofs.Common.{◌≡◌, map}
-use Rattle.sequence.specs.Numbers.{numbers_from}
+use Rattle.base_library.specs.Numbers.{numbers_from}
 use Rattle.letter_space.specs.SpaceView.{space_tree}
 use Rattle.branch_finder.specs.internal.Sets.{mask_of}
 use Rattle.branch_finder.proofs.sets.vector_masks.Given as goal

@@ -1,6 +1,6 @@
 use Rattle.std.proofs.Common.{◌≡◌, ◌∙◌, ◌+◌, ◌++◌, ◌∷◌, [], List, ℕ, map, drop, sym, ap}
 use Rattle.std.proofs.lemmas.List.{append_assoc}
-use Rattle.sequence.proofs.Lists.{left_at}
+use Rattle.base_library.proofs.Lists.{left_at}
 use Rattle.tsl_terms.specs.declared.term.Probe.{Probe}
 use Rattle.tsl_terms.specs.TermTree.{term_trees, probe_tree}
 use Rattle.branch_finder.specs.internal.Values.{mixed, values_by, probe_value, value_in}

@@ -1,5 +1,5 @@
 use Rattle.std.proofs.Common.{◌∙◌, ◌<ℤ◌, ◌∷◌, sym, subst}
-use Rattle.sequence.proofs.Lists.{left_at}
+use Rattle.base_library.proofs.Lists.{left_at}
 use Rattle.clause_core.specs.Literals.{signed_number_of}
 use Rattle.clause_core.specs.Clauses.{IsIncreasing}
 use Rattle.clause_core.proofs.Sets.{rises_front, below_tested}

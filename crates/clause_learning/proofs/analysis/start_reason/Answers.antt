@@ -1,7 +1,7 @@
 use Rattle.std.proofs.Common.{◌<◌, ap, sym, subst, ◌∙◌}
 use Rattle.std.specs.Prelude.{option_map}
 use Rattle.std.proofs.lemmas.Option.{same_Some}
-use Rattle.sequence.proofs.Places.{slice_get_some}
+use Rattle.base_library.proofs.Places.{slice_get_some}
 use Rattle.clause_core.specs.Literals.{Lit}
 use Rattle.sat_trail.specs.declared.entries.Entry.{Entry}
 use Rattle.clause_learning.proofs.analysis.start_reason.Goals as goal

@@ -1,5 +1,5 @@
 use Rattle.std.proofs.Common.{◌≡◌, ◌≤◌}
-use Rattle.sequence.specs.Kept.{with_new}
+use Rattle.base_library.specs.Kept.{with_new}
 use Rattle.ltl_formula.specs.declared.formula.LtlList.{size-LtlList}
 use Rattle.ltl_formula.specs.LtlTree.{ltl_trees}
 use Rattle.obligations.specs.Expansion.{same_formula}

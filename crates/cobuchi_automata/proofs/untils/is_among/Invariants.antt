@@ -1,5 +1,5 @@
 use Rattle.std.proofs.Common.{◌≡◌, drop}
-use Rattle.sequence.specs.Kept.{is_kept}
+use Rattle.base_library.specs.Kept.{is_kept}
 use Rattle.ltl_formula.specs.LtlTree.{ltl_tree}
 use Rattle.obligations.specs.Expansion.{same_formula}
 use Rattle.obligations.specs.Numbers.{lent_trees}

@@ -1,6 +1,6 @@
 use Rattle.std.proofs.Common.{◌∙◌, List, Some, length, map, sym, ap, arith}
 use Rattle.std.proofs.lemmas.List.{length-map}
-use Rattle.sequence.proofs.Passes.{passes_at}
+use Rattle.base_library.proofs.Passes.{passes_at}
 use Rattle.tsl_terms.specs.declared.term.Term.{Term}
 use Rattle.tsl_terms.specs.TermTree.{probe_tree, term_tree}
 use Rattle.program_tree.specs.Walk.{Action}

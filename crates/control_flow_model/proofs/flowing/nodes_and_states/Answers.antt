@@ -1,5 +1,5 @@
 use Rattle.std.proofs.Common.{◌≡◌, ◌∙◌, ◌^◌, ◌<◌, length, map, Some, slice_get, sym, ap, subst, arith}
-use Rattle.sequence.proofs.Each.{each_weaker}
+use Rattle.base_library.proofs.Each.{each_weaker}
 use Rattle.program_tree.specs.NodeTree.{node_tree}
 use Rattle.letter_space.specs.SpaceView.{space_tree}
 use Rattle.machines.specs.MachineView.{controller_tree}

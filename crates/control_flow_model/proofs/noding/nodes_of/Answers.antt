@@ -1,6 +1,6 @@
 use Rattle.std.proofs.Common.{length, refl}
 use Rattle.std.proofs.lemmas.Option.{slice_get_read}
-use Rattle.sequence.proofs.Each.{each_at}
+use Rattle.base_library.proofs.Each.{each_at}
 use Rattle.letter_space.specs.SpaceView.{space_tree}
 use Rattle.letter_space.proofs.Places.{slice_get_image}
 use Rattle.control_flow_model.specs.internal.Parts.{part_key, part_keys}

@@ -1,5 +1,5 @@
 use Rattle.std.proofs.Common.{◌≡◌, ℕ, List, nat_eq}
-use Rattle.sequence.specs.Kept.{with_new}
+use Rattle.base_library.specs.Kept.{with_new}
 use Rattle.machines.specs.MachineView.{controller_tree}
 use Rattle.control_flow_model.specs.internal.Reaching.{AreNext}
 use Rattle.control_flow_model.proofs.reaching.add_next.Given as goal

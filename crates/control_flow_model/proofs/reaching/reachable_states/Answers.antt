@@ -1,6 +1,6 @@
 use Rattle.std.proofs.Common.{◌≡◌, ◌∙◌, sym, ap, subst, filter, arith}
-use Rattle.sequence.specs.Numbers.{is_among, numbers_from}
-use Rattle.sequence.proofs.Numbers.{numbers_passed_more}
+use Rattle.base_library.specs.Numbers.{is_among, numbers_from}
+use Rattle.base_library.proofs.Numbers.{numbers_passed_more}
 use Rattle.machines.specs.MachineView.{controller_tree}
 use Rattle.machines.proofs.ControllerTables.{is_controller}
 use Rattle.control_flow_model.specs.Flow.{AreKept}

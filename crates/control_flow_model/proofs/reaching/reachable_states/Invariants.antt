@@ -1,5 +1,5 @@
 use Rattle.std.proofs.Common.{◌≡◌, filter}
-use Rattle.sequence.specs.Numbers.{is_among, numbers_from}
+use Rattle.base_library.specs.Numbers.{is_among, numbers_from}
 use Rattle.control_flow_model.proofs.reaching.reachable_states.Given as goal
 
 -- those of the states gone through that are found

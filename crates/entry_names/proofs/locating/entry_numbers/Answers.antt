@@ -1,9 +1,9 @@
 use Rattle.std.proofs.Common.{◌<◌, ◌∷◌, [], not, length, map, sym, ap, ◌∙◌, arith}
 use Rattle.std.proofs.lemmas.List.{take_all}
 use Rattle.std.proofs.lemmas.List.Elements.{All-from_recursion}
-use Rattle.sequence.proofs.Finds.{find_image_end, find_item_past, find_item_here}
-use Rattle.sequence.proofs.Options.{not_false_of_some}
-use Rattle.sequence.proofs.Each.{each_joined}
+use Rattle.base_library.proofs.Finds.{find_image_end, find_item_past, find_item_here}
+use Rattle.base_library.proofs.Options.{not_false_of_some}
+use Rattle.base_library.proofs.Each.{each_joined}
 use Rattle.table_syntax.specs.View.{text_token_view}
 use Rattle.entry_names.specs.Needed.{number_for}
 use Rattle.entry_names.specs.Entries.{is_known, numbers_of}

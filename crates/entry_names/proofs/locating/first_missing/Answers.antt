@@ -1,5 +1,5 @@
 use Rattle.std.proofs.Common.{map, sym, ◌∙◌, arith}
-use Rattle.sequence.proofs.Finds.{find_past, find_here, find_end}
+use Rattle.base_library.proofs.Finds.{find_past, find_here, find_end}
 use Rattle.entry_names.specs.Entries.{has_no_entry}
 use Rattle.entry_names.proofs.locating.first_missing.Goals as goal
 

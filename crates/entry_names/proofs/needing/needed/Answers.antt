@@ -1,6 +1,6 @@
 use Rattle.std.proofs.Common.{rules, ◌≡◌, ◌<◌, List, ℕ, length, sym, subst}
 use Rattle.std.specs.Prelude.{All}
-use Rattle.sequence.proofs.Numbers.{numbers_passed_more}
+use Rattle.base_library.proofs.Numbers.{numbers_passed_more}
 use Rattle.entry_names.specs.Needed.{is_symbol_number, needed}
 use Rattle.entry_names.proofs.NeededNames.{needed_within}
 use Rattle.entry_names.proofs.needing.needed.Goals as goal

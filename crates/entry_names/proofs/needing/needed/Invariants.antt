@@ -1,6 +1,6 @@
 use Rattle.std.proofs.Common.{◌≡◌}
 use Rattle.std.specs.Prelude.{filter}
-use Rattle.sequence.specs.Numbers.{numbers_from}
+use Rattle.base_library.specs.Numbers.{numbers_from}
 use Rattle.entry_names.specs.Needed.{is_symbol_number}
 use Rattle.entry_names.proofs.needing.needed.Given as goal
 

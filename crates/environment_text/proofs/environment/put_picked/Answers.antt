@@ -1,7 +1,7 @@
 use Rattle.std.proofs.Common.{◌≡◌, ℕ, get_or, List, ◌++◌, codes, IsTrue, ap, sym, subst, ◌∙◌, append_assoc}
 use Rattle.std.specs.Prelude.{OnOk}
 use Rattle.std.proofs.lemmas.Bool.{and_parts}
-use Rattle.sequence.proofs.Passes.{map_passes_within}
+use Rattle.base_library.proofs.Passes.{map_passes_within}
 use Rattle.tsl_terms.specs.declared.term.Term.{Term}
 use Rattle.tsl_terms.specs.TermTree.{term_tree}
 use Rattle.term_text.specs.TermText.{update_text, term_is_held}

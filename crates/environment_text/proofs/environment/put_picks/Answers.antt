@@ -1,7 +1,7 @@
 use Rattle.std.proofs.Common.{ℕ, List, ◌++◌, map, ap, sym, subst, ◌∙◌, append-nil, IsTrue}
 use Rattle.std.specs.Prelude.{drop}
-use Rattle.sequence.proofs.Lists.{written_step}
-use Rattle.sequence.proofs.Passes.{map_passes_within}
+use Rattle.base_library.proofs.Lists.{written_step}
+use Rattle.base_library.proofs.Passes.{map_passes_within}
 use Rattle.letter_space.specs.declared.controlled.Controlled.{Controlled}
 use Rattle.letter_space.specs.ControlledView.{controlled_tree}
 use Rattle.environment_text.specs.EnvironmentText.{controlled_is_held}

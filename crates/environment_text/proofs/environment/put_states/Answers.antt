@@ -1,4 +1,4 @@
-use Rattle.sequence.proofs.Lists.{written_step}
+use Rattle.base_library.proofs.Lists.{written_step}
 use Rattle.machines.specs.MachineView.{environment_tree}
 use Rattle.environment_text.specs.EnvironmentText.{state_line}
 use Rattle.environment_text.proofs.Pieces.{piece_left}

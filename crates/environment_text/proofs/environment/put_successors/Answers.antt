@@ -1,6 +1,6 @@
 use Rattle.std.proofs.Common.{ℕ, [], ◌++◌, Option, codes, decimal, ap, ◌∙◌}
 use Rattle.std.specs.Option.{option_map_or}
-use Rattle.sequence.proofs.Lists.{written_step}
+use Rattle.base_library.proofs.Lists.{written_step}
 use Rattle.machines.specs.MachineView.{environment_tree}
 use Rattle.environment_text.specs.EnvironmentText.{successor_text}
 use Rattle.environment_text.proofs.Pieces.{piece_left}

@@ -1,5 +1,5 @@
 use Rattle.std.proofs.Common.{IsTrue, sym, subst}
-use Rattle.sequence.proofs.Passes.{map_passes_within}
+use Rattle.base_library.proofs.Passes.{map_passes_within}
 use Rattle.tsl_terms.specs.declared.term.Probe.{Probe}
 use Rattle.tsl_terms.specs.TermTree.{probe_tree}
 use Rattle.term_text.specs.TermText.{probe_is_held}

@@ -1,5 +1,5 @@
 use Rattle.std.proofs.Common.{◌++◌, codes, ap, ◌∙◌}
-use Rattle.sequence.proofs.Lists.{written_step}
+use Rattle.base_library.proofs.Lists.{written_step}
 use Rattle.ltl_formula.specs.Cubes.{has_bit}
 use Rattle.environment_text.specs.EnvironmentText.{bit_text}
 use Rattle.environment_text.proofs.Pieces.{piece_left}

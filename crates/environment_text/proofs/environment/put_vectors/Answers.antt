@@ -1,4 +1,4 @@
-use Rattle.sequence.proofs.Lists.{written_step}
+use Rattle.base_library.proofs.Lists.{written_step}
 use Rattle.letter_space.specs.SpaceView.{space_tree}
 use Rattle.environment_text.specs.EnvironmentText.{vector_line}
 use Rattle.environment_text.proofs.Pieces.{piece_left}

@@ -1,7 +1,7 @@
 use Rattle.std.proofs.Common.{◌≡◌, ℕ, ◌+◌, ◌<◌, List, ◌++◌, length, get_or, drop, map, Some, ap, sym, ◌∙◌, add-one}
 use Rattle.std.proofs.lemmas.Option.{slice_get-get_or}
-use Rattle.sequence.proofs.Each.{each_at, each_unmapped}
-use Rattle.sequence.proofs.Lists.{written_step, left_at}
+use Rattle.base_library.proofs.Each.{each_at, each_unmapped}
+use Rattle.base_library.proofs.Lists.{written_step, left_at}
 use Rattle.tsl_terms.specs.Name.{Name}
 use Rattle.letter_space.specs.SpaceTree.{SpaceTree}
 use Rattle.letter_space.specs.SpaceView.{space_tree}

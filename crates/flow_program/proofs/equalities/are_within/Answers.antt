@@ -1,4 +1,4 @@
-use Rattle.sequence.proofs.MadeLists.{image_passes}
+use Rattle.base_library.proofs.MadeLists.{image_passes}
 use Rattle.program_listing.specs.Listing.{placed_line}
 use Rattle.program_listing.specs.internal.NamesStand.{placed_line_stands}
 use Rattle.flow_program.proofs.equalities.are_within.Goals as goal

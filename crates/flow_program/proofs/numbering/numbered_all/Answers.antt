@@ -1,4 +1,4 @@
-use Rattle.sequence.proofs.MadeLists.{image_passes}
+use Rattle.base_library.proofs.MadeLists.{image_passes}
 use Rattle.flow_program.proofs.numbering.numbered_all.Goals as goal
 
 pub with_numbers-requires-clause-stands : goal.with_numbers-requires-clause-stands

@@ -1,7 +1,7 @@
 -- The parts so far, and then those that are left.
 use Rattle.std.proofs.Common.{◌≡◌, ◌++◌, map, drop}
 use Rattle.std.specs.Prelude.{option_map}
-use Rattle.sequence.specs.Options.{all_there}
+use Rattle.base_library.specs.Options.{all_there}
 use Rattle.flow_program.proofs.numbering.numbered_all.Given as goal
 
 abbrev pub invariant-loop-part : goal.invariant-loop-part

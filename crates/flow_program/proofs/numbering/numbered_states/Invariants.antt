@@ -1,6 +1,6 @@
 -- The numbers so far, and then those of the states that are left.
 use Rattle.std.proofs.Common.{◌≡◌, map, drop}
-use Rattle.sequence.specs.Options.{all_there}
+use Rattle.base_library.specs.Options.{all_there}
 use Rattle.std.specs.Prelude.{◌++◌, option_map}
 use Rattle.flow_program.specs.internal.Numbering.{small}
 use Rattle.flow_program.proofs.numbering.numbered_states.Given as goal

@@ -1,7 +1,7 @@
-use Rattle.sequence.proofs.Passes.{passes_within}
+use Rattle.base_library.proofs.Passes.{passes_within}
 use Rattle.program_listing.specs.internal.NamesStand.{name_stands}
 use Rattle.flow_program.specs.internal.Numbering.{numbered}
-use Rattle.sequence.proofs.Gathered.{each_there_within, copied_more}
+use Rattle.base_library.proofs.Gathered.{each_there_within, copied_more}
 use Rattle.flow_program.proofs.numbering.numbers.Goals as goal
 
 pub numbered-requires-clause-stands : goal.numbered-requires-clause-stands

@@ -1,5 +1,5 @@
 use Rattle.std.proofs.Common.{◌≡◌, length, map, ap, sym, ◌∙◌, arith}
-use Rattle.sequence.proofs.Results.{handed_on}
+use Rattle.base_library.proofs.Results.{handed_on}
 use Rattle.flow_program.specs.declared.reading.ProgramError.TheVariants.{NoMemory}
 use Rattle.program_listing.specs.Listing.{listing_tree}
 use Rattle.flow_program.specs.Uses.{uses_of}

@@ -1,8 +1,8 @@
 use Rattle.std.proofs.Common.{map, sym, ◌∙◌, arith}
 use Rattle.std.proofs.lemmas.Bool.{and_parts}
 use Rattle.std.proofs.lemmas.List.{length-map}
-use Rattle.sequence.proofs.Passes.{passes_within}
-use Rattle.sequence.proofs.MadeLists.{image_passes}
+use Rattle.base_library.proofs.Passes.{passes_within}
+use Rattle.base_library.proofs.MadeLists.{image_passes}
 use Rattle.program_listing.specs.Listing.{name_bytes, update_line}
 use Rattle.program_listing.specs.internal.NamesStand.{name_stands, update_line_stands}
 use Rattle.flow_program.proofs.RuleLemmas.{other_lengths}

@@ -1,5 +1,5 @@
 use Rattle.std.proofs.Common.{sym, ◌∙◌}
-use Rattle.sequence.proofs.Finds.{find_image_past}
+use Rattle.base_library.proofs.Finds.{find_image_past}
 use Rattle.tsl_terms.specs.Clashes.{alike_in}
 use Rattle.flow_program.specs.Rules.{is_unlike}
 use Rattle.flow_program.specs.internal.UseView.{use_view}

@@ -1,5 +1,5 @@
 use Rattle.std.proofs.Common.{◌<◌, length, ◌+◌, arith}
-use Rattle.sequence.proofs.MadeLists.{image_passes}
+use Rattle.base_library.proofs.MadeLists.{image_passes}
 use Rattle.tsl_terms.specs.Name.{texts}
 use Rattle.program_listing.specs.Listing.{listed_line}
 use Rattle.program_listing.specs.internal.NamesStand.{listed_line_stands}

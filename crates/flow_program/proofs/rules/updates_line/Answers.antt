@@ -1,4 +1,4 @@
-use Rattle.sequence.proofs.MadeLists.{image_passes}
+use Rattle.base_library.proofs.MadeLists.{image_passes}
 use Rattle.program_listing.specs.Listing.{node_line}
 use Rattle.program_listing.specs.internal.NamesStand.{node_line_stands}
 use Rattle.flow_program.proofs.rules.updates_line.Goals as goal

@@ -1,5 +1,5 @@
 use Rattle.std.proofs.Common.{map}
-use Rattle.sequence.proofs.Passes.{list_all_weaker}
+use Rattle.base_library.proofs.Passes.{list_all_weaker}
 use Rattle.tsl_terms.specs.TermTree.{term_tree}
 use Rattle.term_text.specs.TermText.{is_held, term_is_held}
 use Rattle.program_tree.specs.Writable.{signal_fits, term_is_writable}

@@ -1,4 +1,4 @@
-use Rattle.sequence.proofs.Passes.{map_passes_within}
+use Rattle.base_library.proofs.Passes.{map_passes_within}
 use Rattle.tsl_terms.specs.WindowTree.{window_tree}
 use Rattle.program_tree.specs.Writable.{window_is_writable}
 use Rattle.flow_program.proofs.Held.{window_held}

@@ -1,6 +1,6 @@
 use Rattle.std.proofs.Common.{◌∙◌, slice_index_or, map, option_map, sym, ap, arith}
 use Rattle.std.proofs.lemmas.Option.{slice_get-get_or, slice_get-map}
-use Rattle.sequence.proofs.Places.{contains_at}
+use Rattle.base_library.proofs.Places.{contains_at}
 use Rattle.cobuchi_automata.specs.Edges.{edge_tree}
 use Rattle.machines.specs.MachineView.{move_tree}
 use Rattle.machines.specs.declared.moves.Move.{Move}

@@ -2,7 +2,7 @@ use Rattle.std.proofs.Common.{◌≡◌, ◌∙◌, ◌+◌, suc, length, take, 
 use Rattle.std.proofs.Common.{subst, arith}
 use Rattle.std.specs.List.{AllByRecursion}
 use Rattle.std.proofs.lemmas.Option.{slice_get-get_or}
-use Rattle.sequence.proofs.Places.{contains_at, take_next}
+use Rattle.base_library.proofs.Places.{contains_at, take_next}
 use Rattle.full_bound.specs.declared.search.Step.{Step}
 use Rattle.full_bound.specs.declared.search.Arrival.{Arrival}
 use Rattle.full_bound.specs.internal.Search.{steps_from}

@@ -1,5 +1,5 @@
 use Rattle.std.proofs.Common.{◌≡◌, ◌≤◌, map}
-use Rattle.sequence.proofs.Lists.{with_front}
+use Rattle.base_library.proofs.Lists.{with_front}
 use Rattle.tsl_terms.specs.FreeTree.{more_free}
 use Rattle.interp_core.specs.declared.free_terms.FreeList.{size-FreeList}
 use Rattle.interp_core.specs.FreeView.{free_tree, free_trees}

@@ -1,6 +1,6 @@
 use Rattle.std.proofs.Common.{◌≡◌, Some, sym, ap}
 use Rattle.std.proofs.lemmas.Result.{IfOk-weaker}
-use Rattle.sequence.proofs.Options.{there_mapped}
+use Rattle.base_library.proofs.Options.{there_mapped}
 use Rattle.interp_core.proofs.Rows.{row_seen}
 use Rattle.interp_core.proofs.images.+images.Goals as goal
 

@@ -1,6 +1,6 @@
 use Rattle.std.proofs.Common.{◌^◌, length, get_or, arith}
 use Rattle.std.proofs.lemmas.Bool.{ltb-true}
-use Rattle.sequence.proofs.Passes.{passes_at}
+use Rattle.base_library.proofs.Passes.{passes_at}
 use Rattle.loop_acceptance.specs.internal.Product.{is_short, edge_rows_of}
 use Rattle.loop_acceptance.proofs.ProductSteps.{row_at, row_short, state_within}
 use Rattle.loop_acceptance.proofs.product.place_count.Goals as goal

@@ -1,5 +1,5 @@
 use Rattle.std.proofs.Common.{◌≡◌, drop, nat_eq}
-use Rattle.sequence.specs.Kept.{is_kept}
+use Rattle.base_library.specs.Kept.{is_kept}
 use Rattle.obligations.specs.Choices.{same_choice}
 use Rattle.obligations.specs.Numbers.{choice_key, choice_keys}
 use Rattle.obligations.proofs.reducing.is_there.Given as goal

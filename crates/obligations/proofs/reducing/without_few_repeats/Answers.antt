@@ -1,5 +1,5 @@
 use Rattle.std.proofs.Common.{◌∙◌, ◌++◌, [], ◌∷◌, not, cond, ap, nat_eq}
-use Rattle.sequence.specs.Kept.{is_kept}
+use Rattle.base_library.specs.Kept.{is_kept}
 use Rattle.obligations.specs.Choices.{same_choice}
 use Rattle.obligations.specs.Numbers.{choice_key, choice_keys}
 use Rattle.obligations.proofs.ReducingLemmas.{push_step}

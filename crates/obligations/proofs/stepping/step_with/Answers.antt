@@ -2,7 +2,7 @@ use Rattle.std.proofs.Common.{◌≡◌, ◌∙◌, map, Some, None, sym, ap, su
 use Rattle.std.specs.List.{AllByRecursion}
 use Rattle.ltl_formula.specs.LtlTree.{ltl_tree}
 use Rattle.obligations.specs.Numbers.{lent_trees, choice_keys}
-use Rattle.sequence.proofs.Results.{handed_on}
+use Rattle.base_library.proofs.Results.{handed_on}
 use Rattle.obligations.specs.Named.{choice_named, IsWell}
 use Rattle.obligations.specs.declared.step_error.StepError.TheVariants.{Choices}
 use Rattle.obligations.specs.Expansion.{choices}

@@ -2,7 +2,7 @@ use Rattle.std.proofs.Common.{◌∙◌, sym, ap}
 use Rattle.std.specs.Prelude.{is_some}
 use Rattle.std.specs.List.{list_all}
 use Rattle.std.proofs.lemmas.List.Folds.{list_all-map}
-use Rattle.sequence.proofs.Booleans.{and_then}
+use Rattle.base_library.proofs.Booleans.{and_then}
 use Rattle.tsl_terms.specs.declared.window.Listed.{Listed}
 use Rattle.tsl_terms.specs.WindowTree.{ListedTree, listed_tree}
 use Rattle.letter_space.specs.SpaceView.{space_tree}

@@ -1,5 +1,5 @@
 use Rattle.std.proofs.Common.{sym, ◌∙◌}
-use Rattle.sequence.proofs.Results.{handed_on}
+use Rattle.base_library.proofs.Results.{handed_on}
 use Rattle.program_listing.specs.internal.LineReading.{left_place, repeat}
 use Rattle.program_listing.proofs.BracketLevels.{misread_on}
 use Rattle.program_listing.proofs.Repeats.{loop_more, loop_end, loop_wrong}

@@ -1,6 +1,6 @@
 use Rattle.std.proofs.Common.{sym, ◌∙◌}
 use Rattle.std.proofs.lemmas.Result.{IfOk-weaker, IfErr-weaker}
-use Rattle.sequence.proofs.Results.{handed_on}
+use Rattle.base_library.proofs.Results.{handed_on}
 use Rattle.program_listing.specs.ListingTree.{surface_tree}
 use Rattle.program_listing.specs.internal.LineReading.{left_place, argument_follows, spaced_argument, arguments, surface_in_brackets}
 use Rattle.program_listing.proofs.BracketLevels.{one_level, misread_on}

@@ -1,5 +1,5 @@
 use Rattle.std.proofs.Common.{◌∙◌, ◌≤◌, ℕ, List, Option, sym, subst}
-use Rattle.sequence.specs.Numbers.{IsDistinct}
+use Rattle.base_library.specs.Numbers.{IsDistinct}
 use Rattle.tsl_terms.specs.Signals.{cells_of}
 use Rattle.tsl_terms.specs.SpecView.{spec_tree}
 use Rattle.tsl_terms.specs.Equality.{equality_in}

@@ -1,8 +1,8 @@
 use Rattle.std.proofs.Common.{◌≡◌, ◌∙◌, ℕ, true, List, map, sym, subst, arith}
 use Rattle.std.specs.List.{AllByRecursion}
-use Rattle.sequence.specs.Numbers.{is_among, IsDistinct}
-use Rattle.sequence.proofs.Each.{each_from_places}
-use Rattle.sequence.proofs.Numbers.{among_at}
+use Rattle.base_library.specs.Numbers.{is_among, IsDistinct}
+use Rattle.base_library.proofs.Each.{each_from_places}
+use Rattle.base_library.proofs.Numbers.{among_at}
 use Rattle.letter_space.specs.SpaceTree.{ControlledTree}
 use Rattle.letter_space.specs.SpaceView.{space_tree}
 use Rattle.branch_finder.specs.Finding.{AreControlled}

@@ -2,7 +2,7 @@ use Rattle.std.proofs.Common.{◌≤◌, [], length, sym, ap, ◌∙◌, refl, a
 use Rattle.std.specs.Prelude.{Err}
 use Rattle.tsl_io.proofs.Effects.{some_bytes, more_bytes}
 use Rattle.tsl_io.proofs.Handed.{whole_kept}
-use Rattle.tool_ends.proofs.Replying.{one_reply, reply_to_bytes}
+use Rattle.tool_io.proofs.Replying.{one_reply, reply_to_bytes}
 use Rattle.cnf_reader.specs.CnfText.{cnf_answer}
 use Rattle.solve_tool.specs.declared.refusal.Refusal.TheVariants.{OtherWords, Unread, TooManyBytes}
 use Rattle.solve_tool.specs.declared.request.TheConstants.{MOST_BYTES}

@@ -1,5 +1,5 @@
 use Rattle.std.proofs.lemmas.Result.{IfOk-weaker}
-use Rattle.tool_ends.proofs.Ending.{ends_with}
+use Rattle.tool_io.proofs.Ending.{ends_with}
 use Rattle.solve_tool.proofs.Reacting.{reply_says, solved_at}
 use Rattle.solve_tool.proofs.top.solve.Goals as goal
 

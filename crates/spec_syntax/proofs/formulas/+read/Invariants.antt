@@ -1,5 +1,5 @@
 use Rattle.std.proofs.Common.{◌≡◌, ℕ, ◌+◌, ◌*◌, length, map}
-use Rattle.token_readers.specs.Readers.{iterate, push, members}
+use Rattle.reader_combinators.specs.Readers.{iterate, push, members}
 use Rattle.tsl_terms.specs.declared.operator.ManyOperator.{ManyOperator}
 use Rattle.tsl_terms.specs.declared.operator.ManyOperator.TheVariants.{Conjunction, Disjunction}
 use Rattle.spec_syntax.specs.Reading.{lower, further, operand_with}

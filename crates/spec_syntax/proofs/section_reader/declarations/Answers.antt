@@ -1,5 +1,5 @@
 use Rattle.std.proofs.Common.{◌∙◌}
-use Rattle.token_readers.proofs.MemberLoops.{viewed_more}
+use Rattle.reader_combinators.proofs.MemberLoops.{viewed_more}
 use Rattle.spec_syntax.specs.SyntaxView.{declaration_syntax}
 use Rattle.spec_syntax.specs.Reading.{declaration}
 use Rattle.spec_syntax.proofs.ExactDeclarations.{declaration_shrinks}

@@ -1,5 +1,5 @@
 use Rattle.std.proofs.Common.{map, ap, sym, ◌∙◌}
-use Rattle.token_readers.specs.Readers.{map_read}
+use Rattle.reader_combinators.specs.Readers.{map_read}
 use Rattle.spec_syntax.specs.SyntaxView.{formula_syntax}
 use Rattle.spec_syntax.specs.internal.InnerView.{listed_syntax}
 use Rattle.spec_syntax.specs.Reading.{formulas, items_of}

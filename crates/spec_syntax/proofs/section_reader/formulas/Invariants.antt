@@ -1,5 +1,5 @@
 use Rattle.std.proofs.Common.{◌≡◌, [], length, map}
-use Rattle.token_readers.specs.Readers.{iterate}
+use Rattle.reader_combinators.specs.Readers.{iterate}
 use Rattle.spec_syntax.specs.Reading.{item, open_items}
 use Rattle.spec_syntax.specs.SyntaxView.{terminals_view, formula_syntax}
 use Rattle.spec_syntax.proofs.section_reader.formulas.Given as goal

@@ -1,5 +1,5 @@
 use Rattle.std.proofs.Common.{◌≡◌, length, map}
-use Rattle.token_readers.specs.Readers.{iterate, push, members}
+use Rattle.reader_combinators.specs.Readers.{iterate, push, members}
 use Rattle.spec_syntax.specs.Reading.{name_at}
 use Rattle.spec_syntax.specs.SyntaxView.{terminals_view}
 use Rattle.spec_syntax.specs.internal.InnerView.{name_text}

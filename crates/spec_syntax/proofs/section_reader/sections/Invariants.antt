@@ -1,5 +1,5 @@
 use Rattle.std.proofs.Common.{◌≡◌, length, map}
-use Rattle.token_readers.specs.Readers.{iterate, push, members}
+use Rattle.reader_combinators.specs.Readers.{iterate, push, members}
 use Rattle.spec_syntax.specs.Reading.{section}
 use Rattle.spec_syntax.specs.SyntaxView.{terminals_view, section_syntax}
 use Rattle.spec_syntax.proofs.section_reader.sections.Given as goal

@@ -1,5 +1,5 @@
 use Rattle.std.proofs.Common.{◌≡◌, ◌+◌, ◌*◌, length}
-use Rattle.token_readers.specs.Readers.{iterate}
+use Rattle.reader_combinators.specs.Readers.{iterate}
 use Rattle.spec_syntax.specs.Reading.{lower, argument, fresh}
 use Rattle.spec_syntax.specs.SyntaxView.{terminals_view}
 use Rattle.spec_syntax.specs.internal.InnerView.{arguments_view}

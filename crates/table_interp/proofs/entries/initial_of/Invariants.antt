@@ -1,5 +1,5 @@
 use Rattle.std.proofs.Common.{◌≡◌, ◌∷◌, [], map, take, Some}
-use Rattle.sequence.specs.Options.{all_there}
+use Rattle.base_library.specs.Options.{all_there}
 use Rattle.table_interp.specs.Tables.{numbers_for}
 use Rattle.table_interp.specs.internal.Located.{located_tables}
 use Rattle.table_interp.proofs.entries.initial_of.Given as goal

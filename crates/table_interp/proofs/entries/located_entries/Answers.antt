@@ -1,7 +1,7 @@
 use Rattle.table_syntax.specs.View.{entry_view, tables_view}
 use Rattle.entry_names.specs.Entries.{subject_of}
 use Rattle.entry_names.proofs.Locate.{subjects_are}
-use Rattle.sequence.proofs.Results.{handed_on}
+use Rattle.base_library.proofs.Results.{handed_on}
 use Rattle.table_interp.proofs.Refusals.{fault_cause}
 use Rattle.table_interp.proofs.entries.located_entries.Goals as goal
 

@@ -1,5 +1,5 @@
 use Rattle.std.proofs.Common.{List, Some, ap, subst, ◌∙◌}
-use Rattle.sequence.proofs.Lists.{map_map}
+use Rattle.base_library.proofs.Lists.{map_map}
 use Rattle.table_syntax.specs.View.{entry_view}
 use Rattle.entry_names.specs.Needed.{is_for}
 use Rattle.entry_names.specs.Entries.{Subject, subject_of, AreLocated}

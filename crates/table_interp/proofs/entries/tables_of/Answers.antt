@@ -1,5 +1,5 @@
 use Rattle.std.proofs.Common.{Some, ap, sym, ◌∙◌}
-use Rattle.sequence.proofs.Gathered.{gather_number}
+use Rattle.base_library.proofs.Gathered.{gather_number}
 use Rattle.table_interp.specs.Tables.{table_of}
 use Rattle.table_interp.specs.internal.Located.{located_tables}
 use Rattle.table_interp.proofs.entries.tables_of.Goals as goal

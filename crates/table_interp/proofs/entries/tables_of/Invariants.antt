@@ -1,6 +1,6 @@
 use Rattle.std.proofs.Common.{◌≡◌, map, Some}
-use Rattle.sequence.specs.Numbers.{numbers_from}
-use Rattle.sequence.specs.Options.{all_there}
+use Rattle.base_library.specs.Numbers.{numbers_from}
+use Rattle.base_library.specs.Options.{all_there}
 use Rattle.table_interp.specs.Tables.{table_of}
 use Rattle.table_interp.specs.internal.Located.{located_tables}
 use Rattle.table_interp.proofs.entries.tables_of.Given as goal

@@ -1,5 +1,5 @@
 use Rattle.std.proofs.Common.{ℕ}
-use Rattle.sequence.proofs.Results.{handed_on}
+use Rattle.base_library.proofs.Results.{handed_on}
 use Rattle.table_syntax.specs.View.{text_token_view, inputs_view}
 use Rattle.entry_names.specs.Entries.{column_subject_of}
 use Rattle.entry_names.proofs.Locate.{subjects_are}

@@ -1,6 +1,6 @@
 use Rattle.std.proofs.Common.{◌<◌, length, sym, ◌∙◌}
 use Rattle.std.proofs.lemmas.List.Elements.{recursion_from_All}
-use Rattle.sequence.proofs.Results.{handed_on}
+use Rattle.base_library.proofs.Results.{handed_on}
 use Rattle.table_interp.specs.Inputs.{HasRowCause}
 use Rattle.table_syntax.specs.View.{inputs_view, numbers_view}
 use Rattle.entry_names.proofs.NeededNames.{cells_within}

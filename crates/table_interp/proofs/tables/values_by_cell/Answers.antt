@@ -1,6 +1,6 @@
 use Rattle.std.proofs.Common.{◌<◌, length, ap, ◌∙◌, nat_eq, get_or, arith}
-use Rattle.sequence.proofs.Numbers.{lookup_not_among, distinct_new}
-use Rattle.sequence.specs.Numbers.{is_among}
+use Rattle.base_library.proofs.Numbers.{lookup_not_among, distinct_new}
+use Rattle.base_library.specs.Numbers.{is_among}
 use Rattle.indexmap.proofs.CallerLemmas.{insert_entry-new}
 use Rattle.table_interp.proofs.Growing.{cell_added}
 use Rattle.table_interp.proofs.tables.values_by_cell.Goals as goal

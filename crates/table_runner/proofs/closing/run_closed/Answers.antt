@@ -1,6 +1,6 @@
 use Rattle.std.proofs.Common.{◌∙◌, ◌++◌, length, sym, ap, subst, arith}
 use Rattle.std.proofs.lemmas.List.{length-map}
-use Rattle.sequence.specs.Numbers.{IsDistinct}
+use Rattle.base_library.specs.Numbers.{IsDistinct}
 use Rattle.program_tree.specs.ProgramView.{program_tree}
 use Rattle.tsl_meaning.specs.Run.{configuration_at}
 use Rattle.tsl_meaning.specs.RunTree.{position_tree}

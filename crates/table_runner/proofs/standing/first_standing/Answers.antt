@@ -1,5 +1,5 @@
 use Rattle.std.proofs.Common.{◌≡◌, ◌∙◌, ◌++◌, length, refl, sym, ap, subst}
-use Rattle.sequence.specs.Numbers.{IsDistinct}
+use Rattle.base_library.specs.Numbers.{IsDistinct}
 use Rattle.table_runner.proofs.Stepping.{first_there, first_paired, stands_first, row_seen, read_distinct}
 use Rattle.table_runner.proofs.standing.first_standing.Goals as goal
 

@@ -1,7 +1,7 @@
 use Rattle.std.proofs.Common.{ap, ◌∙◌}
 use Rattle.std.specs.Prelude.{Some, option_map}
-use Rattle.sequence.proofs.Results.{handed_on}
-use Rattle.token_readers.specs.Readers.{taking}
+use Rattle.base_library.proofs.Results.{handed_on}
+use Rattle.reader_combinators.specs.Readers.{taking}
 use Rattle.table_syntax.specs.internal.Reading.{column_member, name_at, columns}
 use Rattle.table_syntax.specs.View.{text_token_view}
 use Rattle.table_syntax.proofs.Exactness.{columns_shrink}

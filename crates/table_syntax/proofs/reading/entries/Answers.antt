@@ -1,6 +1,6 @@
 use Rattle.std.proofs.Common.{ap, ◌∙◌, List}
 use Rattle.std.specs.Prelude.{Some, option_map}
-use Rattle.sequence.proofs.Results.{handed_on}
+use Rattle.base_library.proofs.Results.{handed_on}
 use Rattle.tsl_terms.specs.declared.names.NameKind.{NameKind}
 use Rattle.table_syntax.specs.Syntax.{TextToken}
 use Rattle.table_syntax.specs.internal.Reading.{entry_member, entry_of_kind, entries}

@@ -2,7 +2,7 @@ use Rattle.std.proofs.Common.{sym, ◌∙◌, arith}
 use Rattle.table_syntax.specs.internal.Reading.{number_member, numbers}
 use Rattle.table_syntax.specs.View.{text_tokens_view}
 use Rattle.table_syntax.proofs.Exactness.{numbers_shrink}
-use Rattle.token_readers.proofs.MemberLoops.{member_more, members_end}
+use Rattle.reader_combinators.proofs.MemberLoops.{member_more, members_end}
 use Rattle.table_syntax.proofs.reading.numbers.Goals as goal
 
 pub loop-number-preserved : goal.loop-number-preserved

@@ -1,5 +1,5 @@
 use Rattle.std.proofs.Common.{◌≡◌, ◌≤◌, length}
-use Rattle.token_readers.specs.Readers.{iterate, push, members}
+use Rattle.reader_combinators.specs.Readers.{iterate, push, members}
 use Rattle.table_syntax.specs.internal.Reading.{number_member}
 use Rattle.table_syntax.specs.View.{text_tokens_view}
 use Rattle.table_syntax.proofs.reading.numbers.Given as goal

@@ -1,6 +1,6 @@
 use Rattle.std.proofs.Common.{ℕ, Vec, Global, ◌≡◌, ◌∙◌, ◌+◌, length, sym, ap, arith, subst}
 use Rattle.std.proofs.lemmas.List.{length-map}
-use Rattle.sequence.proofs.Each.{each_at}
+use Rattle.base_library.proofs.Each.{each_at}
 use Rattle.term_congruence.specs.internal.Closing.{HasPartsBelow, AreKeysFound}
 use Rattle.term_congruence.specs.internal.ShapeView.{shape_tree, shape_trees}
 use Rattle.term_congruence.proofs.FoundLemmas.{found_before, found_new, found_apart, all_found, shape_there, placed_within, once_read}

@@ -1,6 +1,6 @@
 use Rattle.std.proofs.Common.{◌∙◌, map, sym}
 use Rattle.std.proofs.lemmas.Bool.{false≢true}
-use Rattle.sequence.proofs.Each.{each_at}
+use Rattle.base_library.proofs.Each.{each_at}
 use Rattle.tsl_terms.specs.WindowTree.{EquatedTree, equated_tree}
 use Rattle.tsl_terms.specs.Congruence.{IsEquality}
 use Rattle.term_congruence.proofs.PairsMade.{item_at}

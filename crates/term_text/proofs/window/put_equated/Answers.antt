@@ -1,4 +1,4 @@
-use Rattle.sequence.proofs.Passes.{map_passes_within}
+use Rattle.base_library.proofs.Passes.{map_passes_within}
 use Rattle.tsl_terms.specs.WindowTree.{equated_tree}
 use Rattle.term_text.specs.TermText.{probe_is_held}
 use Rattle.term_text.proofs.window.put_equated.Goals as goal

@@ -1,4 +1,4 @@
-use Rattle.sequence.proofs.Passes.{map_passes_within}
+use Rattle.base_library.proofs.Passes.{map_passes_within}
 use Rattle.tsl_terms.specs.WindowTree.{listed_tree}
 use Rattle.term_text.specs.WindowText.{listed_is_held}
 use Rattle.term_text.proofs.window.put_listed.Goals as goal

@@ -1,7 +1,7 @@
 use Rattle.std.proofs.Common.{◌∙◌, Some, ap, option_map, sym}
 use Rattle.interp_core.specs.LeafValue.{leaf_value}
 use Rattle.interp_core.proofs.Besides.{beside-map}
-use Rattle.sequence.proofs.Lists.{alike_more}
+use Rattle.base_library.proofs.Lists.{alike_more}
 use Rattle.tsl_meaning.proofs.columns.column_of.Goals as goal
 
 pub loop-row-preserved : goal.loop-row-preserved

@@ -1,5 +1,5 @@
 use Rattle.std.proofs.Common.{◌≡◌, ◌∙◌, ◌+◌, ap, sym, subst, arith, rules}
-use Rattle.sequence.proofs.Each.{each_left, each_right}
+use Rattle.base_library.proofs.Each.{each_left, each_right}
 use Rattle.tsl_terms.specs.declared.formula.Formula.{the_lemmas}
 use Rattle.tsl_terms.specs.declared.formula.FormulaList.{the_lemmas as list_lemmas}
 use Rattle.tsl_terms.specs.FormulaTree.{more_formulas, formula_tree, formula_trees}

@@ -1,6 +1,6 @@
 use Rattle.std.proofs.Common.{◌≡◌, ◌∙◌, ◌++◌, map, ap, sym, subst}
-use Rattle.sequence.specs.Numbers.{IsDistinct}
-use Rattle.sequence.proofs.Numbers.{distinct_front}
+use Rattle.base_library.specs.Numbers.{IsDistinct}
+use Rattle.base_library.proofs.Numbers.{distinct_front}
 use Rattle.tsl_meaning.proofs.LeafValues.{as_many, leaf_values}
 use Rattle.tsl_meaning.proofs.leaves.leaves_at.Goals as goal
 

@@ -4,7 +4,7 @@ use Rattle.std.proofs.lemmas.List.{take_all}
 use Rattle.interp_core.specs.LeafValue.{leaf_value}
 use Rattle.tsl_meaning.specs.RunTree.{position_tree, run_tree}
 use Rattle.tsl_meaning.specs.RunLasso.{value_at}
-use Rattle.sequence.proofs.Lists.{alike_more, map_map}
+use Rattle.base_library.proofs.Lists.{alike_more, map_map}
 use Rattle.tsl_meaning.proofs.leaves.leaves_of.Goals as goal
 
 pub leaves_at-requires-clause-row : goal.leaves_at-requires-clause-row

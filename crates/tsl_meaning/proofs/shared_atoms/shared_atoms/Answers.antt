@@ -1,7 +1,7 @@
 use Rattle.std.proofs.Common.{◌∙◌, ap, refl, slice_get, subst, sym}
 use Rattle.std.specs.List.{AllByRecursion}
 use Rattle.std.proofs.lemmas.Option.{slice_get_read}
-use Rattle.sequence.proofs.Each.{each_at, each_unmapped}
+use Rattle.base_library.proofs.Each.{each_at, each_unmapped}
 use Rattle.tsl_terms.specs.AtomView.{atom_tree}
 use Rattle.tsl_meaning.specs.RunTree.{run_tree}
 use Rattle.tsl_meaning.specs.RunLasso.{HasTruths}

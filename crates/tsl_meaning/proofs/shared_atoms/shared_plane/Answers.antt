@@ -1,6 +1,6 @@
 use Rattle.std.proofs.Common.{◌≡◌, ◌∙◌, ap, refl, slice_get, subst, sym}
 use Rattle.std.proofs.lemmas.Option.{slice_get_read}
-use Rattle.sequence.proofs.Each.{each_at}
+use Rattle.base_library.proofs.Each.{each_at}
 use Rattle.tsl_terms.specs.AtomView.{atom_tree}
 use Rattle.position_planes.specs.Positions.{IsPlaneOf}
 use Rattle.tsl_meaning.proofs.SharedAtoms.{same_atom_is}

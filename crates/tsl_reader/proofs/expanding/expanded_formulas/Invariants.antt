@@ -1,6 +1,6 @@
 use Rattle.std.proofs.Common.{◌≡◌, map, take}
 use Rattle.spec_syntax.specs.SyntaxView.{formula_syntax}
-use Rattle.named_formulas.specs.DefinitionView.{definition_of}
+use Rattle.definition_expansion.specs.DefinitionView.{definition_of}
 use Rattle.tsl_reader.specs.Expanding.{bare_expansion}
 use Rattle.tsl_reader.proofs.expanding.expanded_formulas.Given as goal
 

@@ -1,6 +1,6 @@
 use Rattle.std.proofs.Common.{◌≡◌, map, take}
 use Rattle.spec_syntax.specs.SyntaxView.{section_syntax}
-use Rattle.named_formulas.specs.DefinitionView.{definition_of}
+use Rattle.definition_expansion.specs.DefinitionView.{definition_of}
 use Rattle.tsl_reader.specs.Expanding.{expanded_bare}
 use Rattle.tsl_reader.proofs.expanding.expanded_sections.Given as goal
 

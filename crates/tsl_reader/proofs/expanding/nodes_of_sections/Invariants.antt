@@ -1,8 +1,8 @@
 use Rattle.std.proofs.Common.{◌≡◌, ◌+◌, ◌≤◌, List, map, min, drop}
 use Rattle.spec_syntax.specs.Syntax.{Definition}
 use Rattle.spec_syntax.specs.SyntaxView.{section_syntax}
-use Rattle.named_formulas.specs.ExpansionSizes.{AreSizes}
-use Rattle.named_formulas.specs.declared.sizing.TheConstants.{NODES_STOP}
+use Rattle.definition_expansion.specs.ExpansionSizes.{AreSizes}
+use Rattle.definition_expansion.specs.declared.sizing.TheConstants.{NODES_STOP}
 use Rattle.tsl_reader.specs.Expanding.{nodes_of_sections}
 use Rattle.tsl_reader.proofs.expanding.nodes_of_sections.Given as goal
 

@@ -1,8 +1,8 @@
 use Rattle.std.proofs.Common.{map, sym, subst, arith}
 use Rattle.spec_syntax.specs.SyntaxView.{section_syntax}
-use Rattle.named_formulas.specs.DefinitionView.{definition_of}
-use Rattle.named_formulas.specs.Uses.{IsOrder}
-use Rattle.named_formulas.specs.ExpansionSizes.{AreSizes}
+use Rattle.definition_expansion.specs.DefinitionView.{definition_of}
+use Rattle.definition_expansion.specs.Uses.{IsOrder}
+use Rattle.definition_expansion.specs.ExpansionSizes.{AreSizes}
 use Rattle.tsl_reader.proofs.TextParts.{heads_are_names, in_order}
 use Rattle.tsl_reader.proofs.ExpandedParts.{well_expanded, well_refused, all_well}
 use Rattle.tsl_reader.proofs.expanding.sections_with_uses.Goals as goal

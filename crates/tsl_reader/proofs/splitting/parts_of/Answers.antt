@@ -1,6 +1,6 @@
 use Rattle.std.proofs.Common.{map, refl, arith}
 use Rattle.spec_syntax.specs.Syntax.{sections_among}
-use Rattle.declared_names.specs.Heads.{definitions_in}
+use Rattle.name_resolution.specs.Heads.{definitions_in}
 use Rattle.tsl_reader.specs.ReadText.{with_names_once}
 use Rattle.tsl_reader.proofs.Splits.{sections_of_each, definitions_of_each, one_taken, few_left, all_taken}
 use Rattle.tsl_reader.proofs.splitting.parts_of.Goals as goal

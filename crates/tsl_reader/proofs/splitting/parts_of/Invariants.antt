@@ -1,8 +1,8 @@
 use Rattle.std.proofs.Common.{◌≡◌, ◌++◌, ◌<◌, ◌^◌, map, vec_len}
 use Rattle.spec_syntax.specs.Syntax.{sections_among}
 use Rattle.spec_syntax.specs.SyntaxView.{section_syntax, declaration_syntax}
-use Rattle.named_formulas.specs.DefinitionView.{definition_of}
-use Rattle.declared_names.specs.Heads.{definitions_in, heads_size}
+use Rattle.definition_expansion.specs.DefinitionView.{definition_of}
+use Rattle.name_resolution.specs.Heads.{definitions_in, heads_size}
 use Rattle.tsl_reader.specs.ReadText.{with_names_once}
 use Rattle.tsl_reader.proofs.Splits.{left_in}
 use Rattle.tsl_reader.proofs.splitting.parts_of.Given as goal

@@ -1,7 +1,7 @@
 use Rattle.std.proofs.Common.{map, ap, ◌∙◌}
 use Rattle.spec_syntax.specs.SyntaxView.{declaration_syntax}
-use Rattle.named_formulas.specs.DefinitionView.{definition_of}
-use Rattle.declared_names.specs.OccurrenceView.{occurrence_of}
+use Rattle.definition_expansion.specs.DefinitionView.{definition_of}
+use Rattle.name_resolution.specs.OccurrenceView.{occurrence_of}
 use Rattle.tsl_reader.proofs.TextParts.{few_heads, few_names, few_levels, text_parts}
 use Rattle.tsl_reader.proofs.stages.sections_of.Goals as goal
 

@@ -1,7 +1,7 @@
 use Rattle.std.proofs.Common.{sym, ◌∙◌, arith}
 use Rattle.std.proofs.lemmas.List.{length-map}
-use Rattle.declared_names.specs.Faults.{has_kind_fault, has_arity_fault}
-use Rattle.declared_names.specs.OccurrenceView.{occurrence_of}
+use Rattle.name_resolution.specs.Faults.{has_kind_fault, has_arity_fault}
+use Rattle.name_resolution.specs.OccurrenceView.{occurrence_of}
 use Rattle.tsl_reader.proofs.TextParts.{few_occurrences, none, kind_told, arity_told}
 use Rattle.tsl_reader.proofs.text_names.check_names.Goals as goal
 

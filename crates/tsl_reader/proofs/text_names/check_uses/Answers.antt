@@ -1,8 +1,8 @@
 use Rattle.std.proofs.Common.{map, ap, sym, ◌∙◌}
 use Rattle.std.specs.Prelude.{position}
-use Rattle.declared_names.specs.Faults.{is_deep_use}
-use Rattle.declared_names.specs.OccurrenceView.{occurrence_of}
-use Rattle.declared_names.specs.WellDeclared.{is_use_too_deep}
+use Rattle.name_resolution.specs.Faults.{is_deep_use}
+use Rattle.name_resolution.specs.OccurrenceView.{occurrence_of}
+use Rattle.name_resolution.specs.WellDeclared.{is_use_too_deep}
 use Rattle.tsl_reader.proofs.LevelsOfSizes.{levels_are, first_by_levels}
 use Rattle.tsl_reader.proofs.TextParts.{none, deep_told}
 use Rattle.tsl_reader.proofs.text_names.check_uses.Goals as goal

@@ -1,7 +1,7 @@
 use Rattle.std.proofs.Common.{map, ap, sym, ◌∙◌}
 use Rattle.std.specs.Prelude.{position}
-use Rattle.declared_names.specs.Faults.{is_head_of}
-use Rattle.declared_names.specs.OccurrenceView.{occurrence_of}
+use Rattle.name_resolution.specs.Faults.{is_head_of}
+use Rattle.name_resolution.specs.OccurrenceView.{occurrence_of}
 use Rattle.tsl_reader.proofs.TextParts.{named_at, cycle_told, cycle_stands}
 use Rattle.tsl_reader.proofs.text_names.cycle_at.Goals as goal
 

@@ -1,6 +1,6 @@
 use Rattle.tsl_reader.specs.Naming.{uses}
 use Rattle.spec_syntax.specs.SyntaxView.{formula_syntax}
-use Rattle.sequence.proofs.Lists.{part_is_few}
+use Rattle.base_library.proofs.Lists.{part_is_few}
 use Rattle.tsl_reader.proofs.uses.add_section.Goals as goal
 
 pub add_formula-requires : goal.add_formula-requires

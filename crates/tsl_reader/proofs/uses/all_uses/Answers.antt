@@ -1,6 +1,6 @@
 use Rattle.tsl_reader.specs.Naming.{section_uses}
 use Rattle.spec_syntax.specs.SyntaxView.{section_syntax}
-use Rattle.sequence.proofs.Lists.{part_is_few}
+use Rattle.base_library.proofs.Lists.{part_is_few}
 use Rattle.tsl_reader.proofs.uses.all_uses.Goals as goal
 
 pub add_section-requires : goal.add_section-requires

@@ -1,6 +1,6 @@
 use Rattle.tsl_terms.specs.TermTree.{term_tree}
 use Rattle.tsl_terms.specs.SameTree.{same_tree}
-use Rattle.sequence.proofs.Kept.{with_new-absent, with_new-present}
+use Rattle.base_library.proofs.Kept.{with_new-absent, with_new-present}
 use Rattle.tsl_terms.proofs.choosing.add_term.Goals as goal
 
 pub returns-in_ok-push : goal.returns-in_ok-push

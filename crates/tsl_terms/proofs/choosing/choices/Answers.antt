@@ -7,11 +7,11 @@ use Rattle.tsl_terms.specs.SameTree.{same_tree}
 use Rattle.tsl_terms.specs.SpecTree.{whole_formula}
 use Rattle.tsl_terms.specs.SpecView.{spec_tree}
 use Rattle.tsl_terms.specs.Signals.{atom_reads, atom_updates, term_for, is_cell}
-use Rattle.sequence.specs.Kept.{with_new}
+use Rattle.base_library.specs.Kept.{with_new}
 use Rattle.tsl_terms.specs.Distinct.{without_repeats}
 use Rattle.tsl_terms.proofs.SameLemmas.{same_tree_is}
-use Rattle.sequence.proofs.Kept.{with_new-append, with_new-from_none}
-use Rattle.sequence.proofs.Passes.{list_any-map}
+use Rattle.base_library.proofs.Kept.{with_new-append, with_new-from_none}
+use Rattle.base_library.proofs.Passes.{list_any-map}
 use Rattle.tsl_terms.proofs.choosing.choices.Goals as goal
 
 pub returns : goal.returns

@@ -4,7 +4,7 @@ use Rattle.tsl_terms.specs.TermTree.{term_tree}
 use Rattle.tsl_terms.specs.AtomView.{atom_tree}
 use Rattle.tsl_terms.specs.SameTree.{same_tree}
 use Rattle.tsl_terms.specs.Signals.{term_for}
-use Rattle.sequence.specs.Kept.{with_new}
+use Rattle.base_library.specs.Kept.{with_new}
 use Rattle.tsl_terms.proofs.AtomLoops.{with_new-next, with_new-all}
 use Rattle.tsl_terms.proofs.choosing.terms_for.Goals as goal
 

@@ -1,6 +1,6 @@
 use Rattle.std.proofs.Common.{arith, rules}
 use Rattle.tsl_terms.specs.declared.term.TermList.{the_lemmas}
-use Rattle.sequence.proofs.Lists.{with_front_push}
+use Rattle.base_library.proofs.Lists.{with_front_push}
 use Rattle.tsl_terms.proofs.copy.+copy_terms.Goals as goal
 
 pub copy_terms-loop-rest-preserved : goal.copy_terms-loop-rest-preserved

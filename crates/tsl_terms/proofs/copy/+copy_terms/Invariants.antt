@@ -1,5 +1,5 @@
 use Rattle.std.proofs.Common.{◌≡◌, ◌≤◌, map}
-use Rattle.sequence.proofs.Lists.{with_front}
+use Rattle.base_library.proofs.Lists.{with_front}
 use Rattle.tsl_terms.specs.declared.term.TermList.{size-TermList}
 use Rattle.tsl_terms.specs.TermTree.{more_terms, term_tree, term_trees}
 use Rattle.tsl_terms.proofs.copy.+copy_terms.Given as goal

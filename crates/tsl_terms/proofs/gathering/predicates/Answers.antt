@@ -5,10 +5,10 @@ use Rattle.tsl_terms.specs.TermTree.{probe_tree}
 use Rattle.tsl_terms.specs.AtomView.{atom_tree}
 use Rattle.tsl_terms.specs.SameTree.{same_probe_tree}
 use Rattle.tsl_terms.specs.Predicates.{probe_of}
-use Rattle.sequence.specs.Kept.{with_new}
+use Rattle.base_library.specs.Kept.{with_new}
 use Rattle.tsl_terms.specs.Distinct.{without_repeats}
 use Rattle.tsl_terms.proofs.SameLemmas.{same_probe_is}
-use Rattle.sequence.proofs.Kept.{with_new-from_none}
+use Rattle.base_library.proofs.Kept.{with_new-from_none}
 use Rattle.tsl_terms.proofs.AtomLoops.{with_new-next, with_new-all}
 use Rattle.tsl_terms.proofs.gathering.predicates.Goals as goal
 

@@ -4,7 +4,7 @@ use Rattle.tsl_terms.specs.TermTree.{probe_tree}
 use Rattle.tsl_terms.specs.AtomView.{atom_tree}
 use Rattle.tsl_terms.specs.SameTree.{same_probe_tree}
 use Rattle.tsl_terms.specs.Predicates.{probe_of}
-use Rattle.sequence.specs.Kept.{with_new}
+use Rattle.base_library.specs.Kept.{with_new}
 use Rattle.tsl_terms.proofs.gathering.predicates.Given as goal
 
 -- the probes that the atoms so far test

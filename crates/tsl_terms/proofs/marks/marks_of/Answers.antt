@@ -5,7 +5,7 @@ use Rattle.tsl_terms.specs.AtomView.{atom_tree}
 use Rattle.tsl_terms.specs.SpecTree.{whole_formula}
 use Rattle.tsl_terms.specs.SpecView.{spec_tree}
 use Rattle.tsl_terms.specs.Signals.{atom_reads, atom_updates, formula_reads, formula_updates}
-use Rattle.sequence.proofs.Passes.{list_any-map}
+use Rattle.base_library.proofs.Passes.{list_any-map}
 use Rattle.tsl_terms.proofs.MarkLemmas.{mark_none}
 use Rattle.tsl_terms.proofs.AtomLoops.{marked-next, marked-all}
 use Rattle.tsl_terms.proofs.marks.marks_of.Goals as goal

@@ -5,8 +5,8 @@ use Rattle.tsl_terms.specs.SpecTree.{whole_formula}
 use Rattle.tsl_terms.specs.SpecView.{spec_tree}
 use Rattle.tsl_terms.specs.Signals.{formula_updates, formula_reads, is_input, is_cell, is_output}
 use Rattle.tsl_terms.proofs.MarkLemmas.{length-marks, mark_at}
-use Rattle.sequence.proofs.Numbers.{numbers_passed_more}
-use Rattle.sequence.proofs.Booleans.{and_then, and_else}
+use Rattle.base_library.proofs.Numbers.{numbers_passed_more}
+use Rattle.base_library.proofs.Booleans.{and_then, and_else}
 use Rattle.tsl_terms.proofs.signal_lists.signals.Goals as goal
 use Rattle.tsl_terms.proofs.signal_lists.signals.Goals.{
   then-is_signal,

@@ -1,4 +1,4 @@
-use Rattle.judging_replies.proofs.OneInput.{read_once}
+use Rattle.checking_commands.proofs.OneInput.{read_once}
 use Rattle.tsl_tool.proofs.AnswersCome.{answers_come, program_or_spent}
 use Rattle.tsl_tool.proofs.completeness.answers_come.Goals as goal
 

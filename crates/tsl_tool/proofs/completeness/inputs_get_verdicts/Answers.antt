@@ -1,4 +1,4 @@
-use Rattle.judging_replies.proofs.OneInput.{read_once}
+use Rattle.checking_commands.proofs.OneInput.{read_once}
 use Rattle.tsl_tool.proofs.VerdictsCome.{check_answers, run_answers, recheck_answers}
 use Rattle.tsl_tool.proofs.completeness.inputs_get_verdicts.Goals as goal
 

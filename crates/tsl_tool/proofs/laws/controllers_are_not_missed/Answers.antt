@@ -1,6 +1,6 @@
-use Rattle.search_replies.proofs.GenReplies.{controller_not_overlooked}
-use Rattle.search_replies.proofs.ProveReplies.{controller_not_refuted}
-use Rattle.search_replies.proofs.SynthReplies.{controller_not_missed, controller_found}
+use Rattle.synthesis_commands.proofs.GenReplies.{controller_not_overlooked}
+use Rattle.synthesis_commands.proofs.ProveReplies.{controller_not_refuted}
+use Rattle.synthesis_commands.proofs.SynthReplies.{controller_not_missed, controller_found}
 use Rattle.tsl_tool.proofs.laws.controllers_are_not_missed.Goals as goal
 
 pub returns : goal.returns

@@ -1,10 +1,10 @@
 use Rattle.std.proofs.Common.{◌∙◌, ap}
 use Rattle.refutation_check.specs.LogText.{log_answer}
-use Rattle.judging_replies.specs.Recheck.{parts_reply, log_part}
-use Rattle.judging_replies.proofs.OneInput.{read_once}
-use Rattle.search_replies.proofs.GenReplies.{gen_is_large}
-use Rattle.search_replies.proofs.ProveReplies.{question_is_large}
-use Rattle.search_replies.proofs.SynthReplies.{search_is_large}
+use Rattle.checking_commands.specs.Recheck.{parts_reply, log_part}
+use Rattle.checking_commands.proofs.OneInput.{read_once}
+use Rattle.synthesis_commands.proofs.GenReplies.{gen_is_large}
+use Rattle.synthesis_commands.proofs.ProveReplies.{question_is_large}
+use Rattle.synthesis_commands.proofs.SynthReplies.{search_is_large}
 use Rattle.tsl_tool.proofs.CheckLimits.{check_tells_limits}
 use Rattle.tsl_tool.proofs.ExchangesCome.{circuit_tells_limits, automaton_tells_limits, accepts_tells_limits}
 use Rattle.tsl_tool.proofs.VerdictsCome.{run_tells_limits, recheck_tells}

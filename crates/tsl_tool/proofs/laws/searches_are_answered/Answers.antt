@@ -1,6 +1,6 @@
-use Rattle.search_replies.proofs.GenReplies.{gen_answers}
-use Rattle.search_replies.proofs.ProveReplies.{question_answers}
-use Rattle.search_replies.proofs.SynthReplies.{search_answers}
+use Rattle.synthesis_commands.proofs.GenReplies.{gen_answers}
+use Rattle.synthesis_commands.proofs.ProveReplies.{question_answers}
+use Rattle.synthesis_commands.proofs.SynthReplies.{search_answers}
 use Rattle.tsl_tool.proofs.laws.searches_are_answered.Goals as goal
 
 pub returns : goal.returns

@@ -1,4 +1,4 @@
-use Rattle.judging_replies.proofs.RecheckLaws.{yes_exactly, no_exactly}
+use Rattle.checking_commands.proofs.RecheckLaws.{yes_exactly, no_exactly}
 use Rattle.tsl_tool.proofs.laws.verdicts_are_those_of_logs.Goals as goal
 
 pub returns : goal.returns

@@ -1,4 +1,4 @@
-use Rattle.judging_replies.proofs.RunVerdicts.{yes_where_all_hold, no_where_one_fails}
+use Rattle.checking_commands.proofs.RunVerdicts.{yes_where_all_hold, no_where_one_fails}
 use Rattle.tsl_tool.proofs.laws.verdicts_are_those_of_runs.Goals as goal
 
 pub returns-clause-yes : goal.returns-clause-yes

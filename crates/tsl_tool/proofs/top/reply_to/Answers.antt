@@ -2,8 +2,8 @@ use Rattle.std.proofs.Common.{map, Global, refl}
 use Rattle.std.specs.Prelude.{string_bytes}
 use Rattle.tsl_io.proofs.Effects.{some_bytes}
 use Rattle.tsl_report.specs.declared.fault.Fault.TheVariants.{Usage as WrongWords}
-use Rattle.tool_ends.proofs.Replying.{one_reply}
-use Rattle.tool_replies.specs.Replies.{fault_reply}
+use Rattle.tool_io.proofs.Replying.{one_reply}
+use Rattle.command_faults.specs.Replies.{fault_reply}
 use Rattle.tsl_tool.specs.Outcome.{usage}
 use Rattle.tsl_tool.proofs.TaskFacts.{task_reads_nothing}
 use Rattle.tsl_tool.proofs.top.reply_to.Goals as goal

@@ -3,8 +3,8 @@ use Rattle.std.specs.Prelude.{Option, Err}
 use Rattle.tsl_io.proofs.Effects.{some_bytes, more_bytes}
 use Rattle.tsl_report.specs.declared.fault.Fault.TheVariants.{Read, Large as PastLimit}
 use Rattle.tsl_report.specs.declared.fault.LimitName.TheVariants.{Text}
-use Rattle.tool_ends.proofs.Replying.{one_reply, reply_to_bytes}
-use Rattle.tool_replies.specs.Replies.{fault_reply}
+use Rattle.tool_io.proofs.Replying.{one_reply, reply_to_bytes}
+use Rattle.command_faults.specs.Replies.{fault_reply}
 use Rattle.tsl_tool.specs.Outcome.{TaskOutcome, source_failed, too_long}
 use Rattle.tsl_tool.specs.Tasks.{AreFewBytes}
 use Rattle.tsl_tool.proofs.EndLaws.{task_replies, on_any_bytes}

@@ -1,5 +1,5 @@
 use Rattle.std.proofs.lemmas.Result.{IfOk-weaker}
-use Rattle.tool_ends.proofs.Ending.{ends_with}
+use Rattle.tool_io.proofs.Ending.{ends_with}
 use Rattle.tsl_tool.proofs.EndLaws.{reply_says, answer_promises}
 use Rattle.tsl_tool.proofs.top.tsl.Goals as goal
 

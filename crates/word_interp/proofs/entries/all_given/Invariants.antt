@@ -1,5 +1,5 @@
 use Rattle.std.proofs.Common.{◌≡◌, map}
-use Rattle.sequence.specs.Numbers.{numbers_from}
+use Rattle.base_library.specs.Numbers.{numbers_from}
 use Rattle.table_syntax.specs.View.{word_entries_view}
 use Rattle.word_interp.specs.Words.{given_for}
 use Rattle.word_interp.proofs.entries.all_given.Given as goal

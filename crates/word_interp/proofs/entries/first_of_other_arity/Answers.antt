@@ -1,5 +1,5 @@
 use Rattle.std.proofs.Common.{sym, ◌∙◌, arith}
-use Rattle.sequence.proofs.Finds.{find_past, find_here, find_end}
+use Rattle.base_library.proofs.Finds.{find_past, find_here, find_end}
 use Rattle.word_interp.specs.Words.{takes_others}
 use Rattle.word_interp.specs.internal.Applied.{given_at}
 use Rattle.word_interp.proofs.entries.first_of_other_arity.Goals as goal

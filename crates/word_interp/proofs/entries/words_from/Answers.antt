@@ -1,12 +1,12 @@
 use Rattle.std.proofs.Common.{length, map, ap, ◌∙◌}
-use Rattle.sequence.specs.Numbers.{numbers_from}
+use Rattle.base_library.specs.Numbers.{numbers_from}
 use Rattle.table_syntax.specs.View.{word_entry_view, word_entries_view, words_view}
 use Rattle.word_interp.specs.Words.{given_for}
 use Rattle.word_interp.proofs.Checked.{gives}
 use Rattle.entry_names.specs.Entries.{word_subject_of}
 use Rattle.entry_names.proofs.Locate.{subjects_are}
 use Rattle.entry_names.proofs.NeededNames.{cells_within}
-use Rattle.sequence.proofs.Results.{handed_on}
+use Rattle.base_library.proofs.Results.{handed_on}
 use Rattle.word_interp.proofs.Refusals.{fault_cause}
 use Rattle.word_interp.proofs.entries.words_from.Goals as goal
 

@@ -1,6 +1,6 @@
 use Rattle.std.proofs.Common.{◌∙◌, refl, sym, subst, arith}
 use Rattle.std.proofs.lemmas.Bool.{MatchBool-at_true, iff_false}
-use Rattle.sequence.proofs.Options.{only_none}
+use Rattle.base_library.proofs.Options.{only_none}
 use Rattle.annotation_check.specs.internal.Pairs.{AreMoveListings}
 use Rattle.annotation_check.specs.internal.PairsView.{pairs_tree}
 use Rattle.annotation_check.specs.internal.Growth.{IsOnTheWay}

@@ -1,7 +1,7 @@
 use Rattle.std.proofs.Common.{◌≡◌, Some, ap, sym, ◌∙◌}
 use Rattle.std.specs.Prelude.{option_map}
 use Rattle.std.proofs.lemmas.Option.{same_Some, slice_get_within}
-use Rattle.sequence.proofs.Places.{slice_get_some}
+use Rattle.base_library.proofs.Places.{slice_get_some}
 use Rattle.sat_trail.specs.declared.entries.Entry.{Entry}
 use Rattle.clause_learning.proofs.Stages.{forced_by}
 use Rattle.clause_learning.proofs.analysis.Analysis.covered_reason.Goals as goal

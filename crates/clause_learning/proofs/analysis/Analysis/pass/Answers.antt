@@ -1,7 +1,7 @@
 use Rattle.std.proofs.Common.{ℕ, Option, MatchOption, subst}
 use Rattle.std.proofs.lemmas.Result.{on_ok_weaker}
 use Rattle.std.proofs.lemmas.Option.{slice_get_within}
-use Rattle.sequence.proofs.Places.{slice_get_some}
+use Rattle.base_library.proofs.Places.{slice_get_some}
 use Rattle.clause_learning.specs.ConflictAnalysis.{MayStay, IsReplaced}
 use Rattle.clause_learning.proofs.Stages.{forced_from}
 use Rattle.clause_learning.proofs.Analysing.{analysis_kept, analysis_replaced}

@@ -1,6 +1,6 @@
 use Rattle.std.proofs.Common.{◌∙◌}
 use Rattle.std.proofs.lemmas.Bool.{or_left}
-use Rattle.sequence.proofs.Places.{slice_get_some}
+use Rattle.base_library.proofs.Places.{slice_get_some}
 use Rattle.clause_learning.specs.ConflictAnalysis.{is_seen, is_of_clause}
 use Rattle.clause_learning.proofs.analysis.Analysis.replace.Goals as goal
 

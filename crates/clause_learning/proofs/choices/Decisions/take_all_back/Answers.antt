@@ -1,7 +1,7 @@
 use Rattle.std.proofs.Common.{◌≡◌, ◌+◌, ◌-◌, ◌||◌, eqb, ℕ, ap, sym, subst, ◌∙◌, arith}
 use Rattle.std.specs.Prelude.{option_map}
 use Rattle.std.proofs.lemmas.Option.{same_Some}
-use Rattle.sequence.proofs.Places.{slice_get_some}
+use Rattle.base_library.proofs.Places.{slice_get_some}
 use Rattle.clause_core.specs.Literals.{Lit}
 use Rattle.sat_trail.specs.declared.entries.Entry.{Entry}
 use Rattle.clause_learning.specs.declared.choices.Decisions.{Decisions}

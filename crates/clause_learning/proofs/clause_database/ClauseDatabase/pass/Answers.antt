@@ -1,7 +1,7 @@
 use Rattle.std.proofs.Common.{◌≡◌, ◌+◌, ◌++◌, ◌∷◌, [], List, Some, slice_get, sym, ap, subst, ◌∙◌, arith}
 use Rattle.std.proofs.lemmas.Option.{get_or_from_slice_get}
-use Rattle.sequence.proofs.Places.{slice_get_some}
-use Rattle.sequence.proofs.Results.{on_ok_two}
+use Rattle.base_library.proofs.Places.{slice_get_some}
+use Rattle.base_library.proofs.Results.{on_ok_two}
 use Rattle.clause_core.specs.Literals.{Lit}
 use Rattle.clause_core.proofs.Sets.{in_order_already}
 use Rattle.clause_learning.specs.ClauseDatabases.{numbers_of, AreKept}

@@ -1,5 +1,5 @@
 use Rattle.std.proofs.Common.{◌<◌, false, refl, arith}
-use Rattle.sequence.proofs.Places.{slice_get_some}
+use Rattle.base_library.proofs.Places.{slice_get_some}
 use Rattle.sat_trail.proofs.Soundness.{length_entries}
 use Rattle.std.specs.Vec.{with_item}
 use Rattle.clause_learning.proofs.SeenEntries.{clears, clears_count}

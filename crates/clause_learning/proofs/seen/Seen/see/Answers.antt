@@ -1,6 +1,6 @@
 use Rattle.std.proofs.Common.{◌<◌, ◌||◌, ℕ, true, Option, refl, arith, sym, ap, ◌∙◌}
 use Rattle.std.proofs.lemmas.Result.{on_ok_weaker}
-use Rattle.sequence.proofs.Places.{slice_get_some}
+use Rattle.base_library.proofs.Places.{slice_get_some}
 use Rattle.sat_trail.proofs.Soundness.{length_entries}
 use Rattle.clause_learning.specs.declared.seen.Seen.{Seen}
 use Rattle.std.specs.Vec.{with_item}

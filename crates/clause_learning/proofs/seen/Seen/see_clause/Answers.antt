@@ -1,6 +1,6 @@
 use Rattle.std.proofs.Common.{◌<◌, sym}
 use Rattle.std.proofs.lemmas.List.Elements.{All-contains}
-use Rattle.sequence.proofs.Places.{contains_at}
+use Rattle.base_library.proofs.Places.{contains_at}
 use Rattle.clause_core.specs.Literals.{Lit}
 use Rattle.clause_core.specs.Clauses.{IsOver}
 use Rattle.clause_learning.proofs.seen.Seen.see_clause.Goals as goal

@@ -1,5 +1,5 @@
 use Rattle.std.proofs.Common.{◌≡◌, map, vec_len}
-use Rattle.sequence.proofs.Lists.{with_front}
+use Rattle.base_library.proofs.Lists.{with_front}
 use Rattle.tsl_terms.specs.FreeTree.{more_free}
 use Rattle.interp_core.specs.FreeView.{free_tree, free_trees, frees_of}
 use Rattle.interp_core.proofs.free_terms.FreeList.from_vec.Given as goal

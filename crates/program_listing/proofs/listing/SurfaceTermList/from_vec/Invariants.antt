@@ -1,5 +1,5 @@
 use Rattle.std.proofs.Common.{◌≡◌, map, vec_len}
-use Rattle.sequence.proofs.Lists.{with_front}
+use Rattle.base_library.proofs.Lists.{with_front}
 use Rattle.program_listing.specs.ListingTree.{more_surfaces, surface_tree, surface_trees}
 use Rattle.program_listing.specs.internal.LineReading.{surfaces_of}
 use Rattle.program_listing.proofs.listing.SurfaceTermList.from_vec.Given as goal

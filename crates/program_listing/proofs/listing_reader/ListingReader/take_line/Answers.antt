@@ -1,5 +1,5 @@
 use Rattle.std.proofs.Common.{Bool, ◌&&◌, ap, sym, ◌∙◌}
-use Rattle.sequence.proofs.Results.{handed_on}
+use Rattle.base_library.proofs.Results.{handed_on}
 use Rattle.program_listing.specs.internal.LineReading.{left_place, line_tree}
 use Rattle.program_listing.specs.internal.LineOrder.{are_new, entries_in, reader_state}
 use Rattle.program_listing.proofs.LinesRead.{line_sound}

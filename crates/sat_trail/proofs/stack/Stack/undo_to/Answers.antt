@@ -1,6 +1,6 @@
 use Rattle.std.proofs.Common.{◌≡◌, ◌++◌, ◌∷◌, [], ◌-◌, ◌≤◌, ℕ, List, Some, None, false, length, take, set, min, slice_get, refl, sym, subst}
 use Rattle.std.proofs.Common.{ap, ◌∙◌, arith}
-use Rattle.sequence.proofs.Places.{last_split}
+use Rattle.base_library.proofs.Places.{last_split}
 use Rattle.sat_trail.specs.internal.Tables.{IsPlaceTable, AreTruths}
 use Rattle.sat_trail.specs.declared.entries.Entry.{Entry}
 use Rattle.sat_trail.specs.Entries.{level_of}

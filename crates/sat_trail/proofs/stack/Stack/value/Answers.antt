@@ -1,6 +1,6 @@
 use Rattle.std.proofs.Common.{refl, ◌≡◌, ◌<◌, ◌∙◌, ℕ, Some, List, length, sym, ap, subst, slice_get, get_or, arith}
 use Rattle.std.proofs.lemmas.Option.{slice_get_within, slice_get_read}
-use Rattle.sequence.proofs.Places.{slice_get_one}
+use Rattle.base_library.proofs.Places.{slice_get_one}
 use Rattle.clause_core.specs.Literals.{same}
 use Rattle.sat_trail.specs.declared.entries.Entry.{Entry}
 use Rattle.sat_trail.specs.Entries.{place_of, truth_of}

@@ -1,6 +1,6 @@
 use Rattle.std.proofs.Common.{◌≡◌, ◌+◌, ◌-◌, ◌<◌, length, Some, slice_get, sym, ap, subst, refl, arith, ◌∙◌}
 use Rattle.std.proofs.lemmas.Option.{slice_get_within}
-use Rattle.sequence.proofs.Places.{slice_get_some}
+use Rattle.base_library.proofs.Places.{slice_get_some}
 use Rattle.clause_core.specs.Literals.{negation, code_of}
 use Rattle.clause_core.proofs.Sets.{code_within}
 use Rattle.sat_trail.specs.declared.entries.Entry.{Entry}

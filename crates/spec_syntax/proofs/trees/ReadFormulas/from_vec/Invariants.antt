@@ -1,5 +1,5 @@
 use Rattle.std.proofs.Common.{◌≡◌, map, vec_len}
-use Rattle.sequence.proofs.Lists.{with_front}
+use Rattle.base_library.proofs.Lists.{with_front}
 use Rattle.spec_syntax.specs.Syntax.{more_formulas, listed_formulas}
 use Rattle.spec_syntax.specs.SyntaxView.{formula_syntax, formulas_syntax}
 use Rattle.spec_syntax.proofs.trees.ReadFormulas.from_vec.Given as goal

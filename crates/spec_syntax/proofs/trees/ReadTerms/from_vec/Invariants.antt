@@ -1,5 +1,5 @@
 use Rattle.std.proofs.Common.{◌≡◌, map, vec_len}
-use Rattle.sequence.proofs.Lists.{with_front}
+use Rattle.base_library.proofs.Lists.{with_front}
 use Rattle.spec_syntax.specs.Syntax.{more_terms, listed_terms}
 use Rattle.spec_syntax.specs.SyntaxView.{term_syntax, terms_syntax}
 use Rattle.spec_syntax.proofs.trees.ReadTerms.from_vec.Given as goal

@@ -1,5 +1,5 @@
 use Rattle.std.proofs.Common.{◌≡◌, map, vec_len}
-use Rattle.sequence.proofs.Lists.{with_front}
+use Rattle.base_library.proofs.Lists.{with_front}
 use Rattle.tsl_terms.specs.FormulaTree.{more_formulas, formula_tree, formula_trees, formulas_of}
 use Rattle.tsl_terms.proofs.formula.FormulaList.from_vec.Given as goal
 

@@ -1,5 +1,5 @@
 use Rattle.std.proofs.Common.{◌≡◌, map, vec_len}
-use Rattle.sequence.proofs.Lists.{with_front}
+use Rattle.base_library.proofs.Lists.{with_front}
 use Rattle.tsl_terms.specs.TermTree.{more_terms, term_tree, term_trees, terms_of}
 use Rattle.tsl_terms.proofs.term.TermList.from_vec.Given as goal
 

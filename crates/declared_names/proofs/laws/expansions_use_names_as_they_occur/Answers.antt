@@ -1,5 +1,0 @@
-use Rattle.declared_names.proofs.Expanded.{expanded_names}
-use Rattle.declared_names.proofs.laws.expansions_use_names_as_they_occur.Goals as goal
-
-pub returns : goal.returns
-returns c ds levels_left r xs own ys rs well derived = expanded_names ds well derived r ys rs

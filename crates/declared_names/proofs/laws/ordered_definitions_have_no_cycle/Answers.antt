@@ -1,5 +1,0 @@
-use Rattle.declared_names.proofs.HeadPlaces.{ordered_are_acyclic}
-use Rattle.declared_names.proofs.laws.ordered_definitions_have_no_cycle.Goals as goal
-
-pub returns : goal.returns
-returns c = ordered_are_acyclic

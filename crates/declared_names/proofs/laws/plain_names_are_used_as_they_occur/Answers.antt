@@ -1,5 +1,0 @@
-use Rattle.declared_names.proofs.WholeText.{text_plain}
-use Rattle.declared_names.proofs.laws.plain_names_are_used_as_they_occur.Goals as goal
-
-pub returns : goal.returns
-returns c = text_plain

@@ -1,7 +1,0 @@
--- Internal: only private functions of this crate use these words.
-use Rattle.declared_names.specs.declared.walk.ReadScope.{ReadScope}
-use Rattle.declared_names.specs.Occurrences.{Scope}
-use Rattle.declared_names.specs.Heads.{is_name}
-
-abbrev pub scope_of : ReadScope → Scope
-scope_of s = record { is_defined = is_name s.heads.now; is_parameter = is_name s.parameters.now; in_section = s.in_section }

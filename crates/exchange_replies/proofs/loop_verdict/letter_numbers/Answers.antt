@@ -1,8 +1,0 @@
-use Rattle.std.proofs.Common.{rules, map}
-use Rattle.letter_text.specs.LoopView.{letter_view}
-use Rattle.exchange_replies.proofs.LetterCounts.{all_below}
-use Rattle.exchange_replies.proofs.loop_verdict.letter_numbers.Goals as goal
-
-pub loop-letter-init : goal.loop-letter-init
-loop-letter-init c =
-    (search rules, all_below c.args.bits (map letter_view c.args.found.now.letters) c.requires.few_bits c.requires.is_loop.0)

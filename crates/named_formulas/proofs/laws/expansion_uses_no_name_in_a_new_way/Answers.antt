@@ -1,6 +1,0 @@
-use Rattle.named_formulas.specs.Occurrences.{Passing}
-use Rattle.named_formulas.proofs.NoNewUses.{no_new_use}
-use Rattle.named_formulas.proofs.laws.expansion_uses_no_name_in_a_new_way.Goals as goal
-
-pub returns : goal.returns
-returns c named rank P ranked bodies n a = no_new_use named rank (Passing P) ranked bodies n a

@@ -1,7 +1,0 @@
-use Rattle.std.proofs.Common.{◌≡◌, ◌+◌}
-use Rattle.search_replies.proofs.ChoiceCounts.{choices_left}
-use Rattle.search_replies.proofs.generating.update_count.Given as goal
-
--- the count so far makes, with what is left, the whole count
-abbrev pub invariant-loop-controlled : goal.invariant-loop-controlled
-invariant-loop-controlled l = l.count + choices_left l.controlled-items l.controlled-index ≡ choices_left l.controlled-items 0
