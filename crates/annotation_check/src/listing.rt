@@ -51,7 +51,7 @@ impl Listing {
     }
 }
 
-/// For each place the end of the run of equal states that it stands in. An `Err` says that memory ran out.
+/// For each place the end of the run of equal states that it stands in.
 fn run_ends(alloc: Global, next: &[u32]) -> Result<Vec<usize>, NoMemory>
     ensures { IfOk result (λ ends. AreRunEnds next.now ends.items) }
 {

@@ -110,7 +110,7 @@ fn environment_moves(
     Ok(table)
 }
 
-/// The edges from each state of an automaton, in their order. An `Err` says that memory ran out.
+/// The edges from each state of an automaton, in their order.
 pub fn edges_by_state(alloc: Global, automaton: &Automaton) -> Result<Vec<Vec<Edge>>, NoMemory>
     ensures { IfOk result (λ table. edge_lists table.items
         ≡ map (edges_from (edge_trees automaton.now.edges)) (numbers_from 0 automaton.now.states)) }

@@ -247,9 +247,9 @@ impl LineReader for HoaReader {
     }
 }
 
-/// The automaton that a text tells, its edges in the order of their first states. An `Err` tells the
-/// first line with which no text of an automaton goes on; otherwise the first limit that is passed,
-/// bits before states and states before edges; or that memory ran out.
+/// The automaton that a text tells, its edges in the order of their first states. An `Err` tells the first line with
+/// which no text of an automaton goes on; otherwise the first limit that is passed, bits before states and states
+/// before edges.
 pub fn read_hoa(alloc: Global, text: &[u8]) -> Result<Hoa, HoaError>
     requires { length text.now + 1 < 2 ^ 32 }
     ensures ok { IfOk result (λ found.

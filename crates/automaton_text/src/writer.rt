@@ -26,7 +26,7 @@ use term_text::{put_probe, put_update};
 use tsl_terms::{Names, Probe, Term};
 use tsl_text::{put_bytes, put_number};
 
-/// The text of an automaton over the bits of a space. An `Err` says that memory ran out.
+/// The text of an automaton over the bits of a space.
 ///
 /// The names hold each number of the space's terms.
 pub fn write_automaton(

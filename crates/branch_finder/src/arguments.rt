@@ -31,7 +31,7 @@ fn add_terms(alloc: Global, copies: &mut Vec<Term>, terms: &TermList) -> Result<
     Ok(())
 }
 
-/// The arguments of the predicate terms of a space. An `Err` says that memory ran out.
+/// The arguments of the predicate terms of a space.
 pub(crate) fn arguments_of(alloc: Global, space: &Space) -> Result<Arguments, NoMemory>
     ensures terms { IfOk result (λ a. map term_tree a.terms.items ≡ arguments_of (space_tree space.now).predicates) }
     ensures starts { IfOk result (λ a. AreStarts (space_tree space.now).predicates a.starts.items) }

@@ -38,7 +38,7 @@ pub(crate) fn count_paths(vectors: u32, steps: u32) -> u32
     count
 }
 
-/// The path of so many steps with a number. An `Err` says that memory ran out.
+/// The path of so many steps with a number.
 pub(crate) fn path_with(
     alloc: Global,
     vectors: u32,

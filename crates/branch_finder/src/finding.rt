@@ -42,7 +42,7 @@ use std::alloc::Global;
 use term_congruence::classes_along;
 use tsl_terms::Window;
 
-/// The first vectors that have the sets with these numbers. An `Err` says that memory ran out.
+/// The first vectors that have the sets with these numbers.
 fn first_vectors(alloc: Global, firsts: &[u32], numbers: &[u32]) -> Result<Vec<u32>, NoMemory>
     requires { AllByRecursion (λ n. n < length firsts.now) numbers.now }
     ensures { IfOk result (λ path. path.items ≡ map (first_of firsts.now) numbers.now) }
@@ -139,7 +139,7 @@ fn is_reached(
     Ok(any_bit(states.as_slice()))
 }
 
-/// Prints with one more at the end. An `Err` says that memory ran out.
+/// Prints with one more at the end.
 fn with_print(alloc: Global, prints: &[u32], print: u32) -> Result<Vec<u32>, NoMemory>
     ensures { IfOk result (λ longer. longer.items ≡ prints.now ++ print ∷ []) }
 {
@@ -262,8 +262,7 @@ fn least_window(alloc: Global, search: &Search, depth: u32) -> Result<Option<Win
     Ok(None)
 }
 
-/// What `find_window` answers where there is a predicate term and the branches are few. An `Err` says that memory ran
-/// out.
+/// What `find_window` answers where there is a predicate term and the branches are few.
 fn window_of_cells(
     alloc: Global,
     environment: &Environment,
@@ -311,11 +310,11 @@ fn window_of_cells(
     Ok(least_window(alloc, &search, depth)?)
 }
 
-/// A congruent window that is spurious and of the least length, at most the depth, and lists no update and no
-/// equality too many, in the order of programs; or none, where no congruent window of at most this length is spurious.
+/// A congruent window that is spurious and of the least length, at most the depth, and lists no update and no equality
+/// too many, in the order of programs; or none, where no congruent window of at most this length is spurious.
 /// Equalities are the probes of the handed predicate with two arguments; without one a window that is found has a left
 /// probe and lists no equality. It is refused with `Branches` exactly where the square of the number of predicate terms
-/// times the vectors to the depth is over 10,000,000. An `Err` may also say that memory ran out.
+/// times the vectors to the depth is over 10,000,000.
 pub fn find_window(
     alloc: Global,
     environment: &Environment,

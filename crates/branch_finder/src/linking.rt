@@ -81,8 +81,7 @@ fn set_links(
     Ok(rows)
 }
 
-/// For each set and each state the states that the state goes to under vectors with all updates of the set. An
-/// `Err` says that memory ran out.
+/// For each set and each state the states that the state goes to under vectors with all updates of the set.
 pub(crate) fn links_of(
     alloc: Global,
     environment: &Environment,

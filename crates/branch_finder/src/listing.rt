@@ -78,8 +78,7 @@ fn add_updates(
     Ok(())
 }
 
-/// The updates of cells along a path of vectors, by offset and then by the cell's place. An `Err` says that
-/// memory ran out.
+/// The updates of cells along a path of vectors, by offset and then by the cell's place.
 pub(crate) fn updates_along(
     alloc: Global,
     space: &Space,
@@ -144,7 +143,7 @@ fn add_equalities(
     Ok(())
 }
 
-/// The equalities of the prints along a path, by offset and then by bit. An `Err` says that memory ran out.
+/// The equalities of the prints along a path, by offset and then by bit.
 pub(crate) fn equalities_along(
     alloc: Global,
     space: &Space,

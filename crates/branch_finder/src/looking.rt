@@ -129,8 +129,7 @@ fn is_one_side(walk: &Walk, pair: Pair) -> bool
 }
 
 /// Whether a path tells a pair apart, from some state that is visited. Two quick tests come first: one side is never told
-/// apart from itself, nor are bits that do not differ in any two states that are visited. An `Err` says that memory ran
-/// out.
+/// apart from itself, nor are bits that do not differ in any two states that are visited.
 pub(crate) fn is_told_apart(alloc: Global, walk: &Walk, pair: Pair) -> Result<bool, NoMemory>
     requires walk { IsWalk walk.now }
     requires pair { IsPairWithin walk.now pair }
@@ -324,7 +323,7 @@ fn seen_at(alloc: Global, look: &Look, left_at: u32) -> Result<Option<Pair>, NoM
     Ok(None)
 }
 
-/// A pair that is congruent and told apart. An `Err` says that memory ran out.
+/// A pair that is congruent and told apart.
 pub(crate) fn seen_pair(alloc: Global, look: &Look) -> Result<Option<Pair>, NoMemory>
     requires look { IsLook look.now }
     ensures some { IfOk result (λ seen. IfSome seen (λ pair. IsSeen (space_tree look.now.walk.search.space.now)
@@ -357,7 +356,7 @@ fn is_seen_alone(alloc: Global, look: &Look, right: u32) -> Result<bool, NoMemor
     Ok(is_told_false(alloc, &look.walk, right)?)
 }
 
-/// An equality that is congruent without a left probe and told false. An `Err` says that memory ran out.
+/// An equality that is congruent without a left probe and told false.
 pub(crate) fn seen_alone(alloc: Global, look: &Look) -> Result<Option<u32>, NoMemory>
     requires look { IsLook look.now }
     ensures some { IfOk result (λ seen. IfSome seen (λ right. IsSeenAlone (space_tree look.now.walk.search.space.now)

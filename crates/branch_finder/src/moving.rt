@@ -17,7 +17,7 @@ use machines::Environment;
 use base_library::{NoMemory, Sequence};
 use std::alloc::Global;
 
-/// The states in which an environment may be at first or later, as a plane. An `Err` says that memory ran out.
+/// The states in which an environment may be at first or later, as a plane.
 pub(crate) fn plane_of(alloc: Global, states: u32, listed: &[u32]) -> Result<Vec<u64>, NoMemory>
     requires within { AllByRecursion (λ s. s < states) listed.now }
     ensures { IfOk result (λ plane. IsPlaneOf states (IsListed listed.now (length listed.now)) plane.items) }

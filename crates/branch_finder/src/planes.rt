@@ -7,7 +7,7 @@ ghost use Rattle.branch_finder.specs.internal.Planes.{words_of};
 use base_library::NoMemory;
 use std::alloc::Global;
 
-/// A plane of so many bits, none of which is set. An `Err` says that memory ran out.
+/// A plane of so many bits, none of which is set.
 pub(crate) fn no_bits(alloc: Global, bits: usize) -> Result<Vec<u64>, NoMemory>
     requires few { bits ≤ 2 ^ 32 }
     ensures size { IfOk result (λ plane. length plane.items ≡ words_of bits) }

@@ -64,7 +64,7 @@ pub(crate) fn equality_bits(space: &Space, equality: Option<u32>) -> u32
     bits
 }
 
-/// The prints of an environment's states, each once. An `Err` says that memory ran out.
+/// The prints of an environment's states, each once.
 pub(crate) fn prints_of(
     alloc: Global,
     environment: &Environment,

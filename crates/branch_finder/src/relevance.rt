@@ -72,7 +72,7 @@ fn next_read(space: &Space, cells: &[u32], rest: &[u32]) -> Option<usize>
     None
 }
 
-/// The cells that no predicate term depends on. An `Err` says that memory ran out.
+/// The cells that no predicate term depends on.
 fn unread_cells(alloc: Global, space: &Space, cells: &[u32]) -> Result<Vec<u32>, NoMemory>
     ensures { IfOk result (λ rest. AreUnread (space_tree space.now) cells.now rest.items) }
 {
@@ -83,7 +83,7 @@ fn unread_cells(alloc: Global, space: &Space, cells: &[u32]) -> Result<Vec<u32>,
     Ok(rest)
 }
 
-/// The cells that are not among the rest. An `Err` says that memory ran out.
+/// The cells that are not among the rest.
 fn others_of(alloc: Global, cells: &[u32], rest: &[u32]) -> Result<Vec<u32>, NoMemory>
     ensures { IfOk result (λ others. others.items ≡ others_of cells.now rest.now) }
 {
@@ -96,7 +96,7 @@ fn others_of(alloc: Global, cells: &[u32], rest: &[u32]) -> Result<Vec<u32>, NoM
     Ok(others)
 }
 
-/// The cells that predicate terms depend on, in their order. An `Err` says that memory ran out.
+/// The cells that predicate terms depend on, in their order.
 pub(crate) fn relevant_cells(
     alloc: Global,
     space: &Space,

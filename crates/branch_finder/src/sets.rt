@@ -12,7 +12,7 @@ use letter_space::Space;
 use base_library::NoMemory;
 use std::alloc::Global;
 
-/// The masks of so many vectors: the bits of the updates that each one picks. An `Err` says that memory ran out.
+/// The masks of so many vectors: the bits of the updates that each one picks.
 pub(crate) fn vector_masks(alloc: Global, space: &Space, vectors: u32) -> Result<Vec<u64>, NoMemory>
     requires vectors { vectors ≤ vector_count (space_tree space.now).controlled }
     ensures { IfOk result (λ masks. masks.items ≡ map (mask_of (space_tree space.now)) (numbers_from 0 vectors)) }
@@ -86,7 +86,7 @@ fn add_set(
     Ok(())
 }
 
-/// The sets of updates of cells that so many vectors have. An `Err` says that memory ran out.
+/// The sets of updates of cells that so many vectors have.
 pub(crate) fn sets_of(
     alloc: Global,
     space: &Space,

@@ -183,7 +183,6 @@ fn with_needed_equalities(alloc: Global, search: &Search, found: Window) -> Resu
 }
 
 /// The window with those of its updates and equalities that it needs: without any one of them it is not congruent.
-/// An `Err` says that memory ran out.
 pub(crate) fn needed_window(
     alloc: Global,
     search: &Search,

@@ -259,7 +259,7 @@ fn looks_seen_with_right(
     Ok(false)
 }
 
-/// Whether some pair looks seen on a path. An `Err` says that memory ran out.
+/// Whether some pair looks seen on a path.
 pub(crate) fn looks_seen(alloc: Global, walk: &Walk) -> Result<bool, NoMemory>
     requires walk { IsWalk walk.now }
     ensures { IfOk result (λ looks. looks ≡ false → (left_at left right : ℕ) → LooksSeen (space_tree walk.now.search.space.now)

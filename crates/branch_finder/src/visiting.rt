@@ -44,8 +44,7 @@ fn add_successors(
     Ok(())
 }
 
-/// The states that an environment visits, each once, in the order in which they are found. An `Err` says that
-/// memory ran out.
+/// The states that an environment visits, each once, in the order in which they are found.
 pub(crate) fn visited_states(alloc: Global, environment: &Environment) -> Result<Vec<u32>, NoMemory>
     ensures { IfOk result (λ found. AreVisited (environment_tree environment.now) found.items) }
 {

@@ -103,7 +103,7 @@ fn window_of_right(
 }
 
 /// The window of a pair that is seen or of an equality that is seen alone, with all updates and equalities of the
-/// path, if there is one. An `Err` says that memory ran out.
+/// path, if there is one.
 pub(crate) fn window_seen(
     alloc: Global,
     look: &Look,

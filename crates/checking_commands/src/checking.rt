@@ -51,8 +51,8 @@ pub fn check(alloc: Global, bound: u32, bytes: &[u8]) -> Result<Reply, NoMemory>
     }
 }
 
-/// The specification and the program of these bytes, where `check` accepts the program within the bound;
-/// otherwise what `check` replies. An `Err` says that memory ran out.
+/// The specification and the program of these bytes, where `check` accepts the program within the bound; otherwise
+/// what `check` replies.
 pub fn accepted_program(alloc: Global, bound: u32, bytes: &[u8]) -> Result<Judged, NoMemory>
     requires { length bytes.now ≤ 2 ^ 24 }
     ensures { IfOk result (IsJudged bound bytes.now) }

@@ -14,8 +14,7 @@ use tsl_report::{DataPart, Fault, LimitName, ProgramRule, TokenPart};
 use tsl_terms::Names;
 use word_interp::{MOST_BITS, WordError};
 
-/// The fault of a refusal of this text as a program. An `Err` says that memory ran out, here or at
-/// the reading.
+/// The fault of a refusal of this text as a program.
 pub(crate) fn fault_of_program(
     alloc: Global,
     text: &[u8],
@@ -58,8 +57,7 @@ fn name_at(alloc: Global, text: &[u8], name: Name) -> Result<Sequence<u8>, NoMem
     name_between(alloc, text, name.start, name.end)
 }
 
-/// The fault of a refusal of this text as tables over these names. An `Err` says that memory ran
-/// out, here or at the reading.
+/// The fault of a refusal of this text as tables over these names.
 pub(crate) fn fault_of_tables(
     alloc: Global,
     text: &[u8],
@@ -107,8 +105,7 @@ fn name_of(alloc: Global, names: &Names, id: u32) -> Result<Sequence<u8>, NoMemo
     Ok(Sequence::from_vec(name))
 }
 
-/// The fault of a refusal of this text as machine words over these names. An `Err` says that memory ran
-/// out, here or at the reading.
+/// The fault of a refusal of this text as machine words over these names.
 pub(crate) fn fault_of_words(
     alloc: Global,
     text: &[u8],
@@ -143,8 +140,7 @@ pub(crate) fn fault_of_words(
     }
 }
 
-/// The fault of a refusal of this text as inputs over these names. An `Err` says that memory ran
-/// out, here or at the reading.
+/// The fault of a refusal of this text as inputs over these names.
 pub(crate) fn fault_of_inputs(
     alloc: Global,
     text: &[u8],

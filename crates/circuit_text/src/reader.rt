@@ -212,8 +212,8 @@ impl LineReader for CircuitReader {
     }
 }
 
-/// The circuit that a text tells. An `Err` tells the first line with which no text of a circuit goes
-/// on, which is the one after the last where a line is missing; or that memory ran out.
+/// The circuit that a text tells. An `Err` tells the first line with which no text of a circuit goes on, which is the
+/// one after the last where a line is missing.
 #[tactic(auto, using(crate::proofs::FirstWrongLine::first_wrong))]
 pub fn read_circuit(alloc: Global, text: &[u8]) -> Result<Circuit, TextError>
     requires { length text.now + 1 < 2 ^ 32 }

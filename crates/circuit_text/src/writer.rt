@@ -13,7 +13,7 @@ use base_library::NoMemory;
 use std::alloc::Global;
 use tsl_text::{put_bytes, put_number};
 
-/// The text of a circuit. An `Err` says that memory ran out.
+/// The text of a circuit.
 #[tactic(auto, using(crate::proofs::WrittenCircuits::put_together))]
 pub fn write_circuit(alloc: Global, circuit: &Circuit) -> Result<Vec<u8>, NoMemory>
     ensures { IfOk result (λ text. text.items ≡ circuit_text (circuit_tree circuit.now)) }

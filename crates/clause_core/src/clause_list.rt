@@ -76,7 +76,7 @@ impl ClauseList {
     }
 
     /// Adds the clause of these literals at the end: by rising numbers, each once. An `Err` says that there is no
-    /// room for so many literals, or that memory ran out; the list is then as before.
+    /// room for so many literals; the list is then as before.
     #[inline(always)]
     pub fn push(&mut self, alloc: Global, literals: &[Literal]) -> Result<(), NoMemory>
         ensures ok { OnOk result (self.new ≡ self.old ++ in_order literals.now ∷ []) }
@@ -94,7 +94,7 @@ impl ClauseList {
 }
 
 /// Appends the literals of one more clause, and where they end. Some literals may have been appended at an `Err`, which
-/// says that there is no room for so many literals, or that memory ran out.
+/// says that there is no room for so many literals.
 #[inline(always)]
 fn put_clause(
     alloc: Global,
@@ -131,7 +131,7 @@ fn bounds(ends: &[u32], count: usize, place: usize) -> (usize, usize)
 }
 
 /// Appends where the literals of one more clause end, if there is room for so many literals. An `Err` says that there
-/// is none, or that memory ran out.
+/// is none.
 #[inline(always)]
 fn put_end(ends: &mut Vec<u32>, end: usize) -> Result<(), NoMemory>
     ensures { ends.new.items ≡ cond (is_ok result) (ends.old.items ++ end ∷ []) ends.old.items }

@@ -74,7 +74,7 @@ fn are_rising(literals: &[Literal]) -> bool
     }
 }
 
-/// The clause of literals that rise strictly. An `Err` says that memory ran out.
+/// The clause of literals that rise strictly.
 #[inline(always)]
 #[tactic(auto, using(crate::proofs::Sets::in_order_already))]
 fn rising_clause(alloc: Global, literals: &[Literal]) -> Result<Clause, NoMemory>
@@ -85,7 +85,7 @@ fn rising_clause(alloc: Global, literals: &[Literal]) -> Result<Clause, NoMemory
     Ok(Clause { literals })
 }
 
-/// The clause of literals in any order. An `Err` says that memory ran out.
+/// The clause of literals in any order.
 #[inline(never)]
 fn sorted_clause(alloc: Global, literals: &[Literal]) -> Result<Clause, NoMemory>
     ensures { IfOk result (λ clause. clause ≡ in_order literals.now) }
@@ -96,7 +96,7 @@ fn sorted_clause(alloc: Global, literals: &[Literal]) -> Result<Clause, NoMemory
     Ok(Clause { literals })
 }
 
-/// The clause of these literals: by rising numbers, each once. An `Err` says that memory ran out.
+/// The clause of these literals: by rising numbers, each once.
 #[inline(always)]
 pub fn clause_of(alloc: Global, literals: &[Literal]) -> Result<Clause, NoMemory>
     ensures { IfOk result (λ clause. clause ≡ in_order literals.now) }

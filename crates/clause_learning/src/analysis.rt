@@ -30,7 +30,7 @@ pub struct Analysis {
 }
 
 impl Analysis {
-    /// No analysis has begun. An `Err` says that memory ran out.
+    /// No analysis has begun.
     pub fn new(alloc: Global, variables: u32) -> Result<Analysis, NoMemory>
         ensures { IfOk result (λ analysis. AreNoneSeen variables analysis.seen) }
     {
@@ -42,7 +42,7 @@ impl Analysis {
         })
     }
 
-    /// Analyses a clause that is false, over all entries. An `Err` says that memory ran out.
+    /// Analyses a clause that is false, over all entries.
     pub fn run(&mut self, trail: &Trail<'_>, units: &Units, conflict: u32) -> Result<(), NoMemory>
         requires ready { CanAnalyse trail.now units.now self.old.seen }
         requires conflict { IsFalseAt trail.now conflict }
@@ -58,7 +58,7 @@ impl Analysis {
         Ok(())
     }
 
-    /// Begins with a clause that is false. An `Err` says that memory ran out.
+    /// Begins with a clause that is false.
     fn begin(&mut self, trail: &Trail<'_>, conflict: u32) -> Result<(), NoMemory>
         requires trail { IsUsable trail.now }
         requires conflict { IsFalseAt trail.now conflict }
@@ -75,7 +75,7 @@ impl Analysis {
         Ok(())
     }
 
-    /// Passes an entry. An `Err` says that memory ran out.
+    /// Passes an entry.
     fn step(&mut self, trail: &Trail<'_>, units: &Units, place: u32) -> Result<(), NoMemory>
         requires trail { IsUsable trail.now }
         requires units { AreUnits trail.now units.now }
@@ -90,8 +90,7 @@ impl Analysis {
         }
     }
 
-    /// Passes a seen entry: its reason takes its place in the clause, or the opposite of its literal
-    /// stays. An `Err` says that memory ran out.
+    /// Passes a seen entry: its reason takes its place in the clause, or the opposite of its literal stays.
     fn pass(&mut self, trail: &Trail<'_>, units: &Units, place: u32) -> Result<(), NoMemory>
         requires trail { IsUsable trail.now }
         requires units { AreUnits trail.now units.now }
@@ -152,7 +151,7 @@ impl Analysis {
         }
     }
 
-    /// The reason takes the place of an entry. An `Err` says that memory ran out.
+    /// The reason takes the place of an entry.
     fn replace(&mut self, trail: &Trail<'_>, place: u32, reason: u32) -> Result<(), NoMemory>
         requires trail { IsUsable trail.now }
         requires given { reason < length trail.now.clauses }
@@ -166,7 +165,7 @@ impl Analysis {
         Ok(())
     }
 
-    /// The opposite of an entry's literal stays in the clause. An `Err` says that memory ran out.
+    /// The opposite of an entry's literal stays in the clause.
     fn keep(&mut self, trail: &Trail<'_>, place: u32) -> Result<(), NoMemory>
         requires trail { IsUsable trail.now }
         requires entry { IsSeenAt trail.now place self.old.seen }

@@ -24,7 +24,7 @@ pub struct Decisions {
 }
 
 impl Decisions {
-    /// No variable was active, or had a value. An `Err` says that memory ran out.
+    /// No variable was active, or had a value.
     pub fn new(alloc: Global, variables: u32) -> Result<Decisions, NoMemory>
         requires { variables < 2 ^ 31 }
         ensures { IfOk result (λ decisions. (entries : List Entry) → AreDecisions variables entries decisions) }
@@ -36,7 +36,7 @@ impl Decisions {
         })
     }
 
-    /// Decides the next variable, and answers whether there was one. An `Err` says that memory ran out.
+    /// Decides the next variable, and answers whether there was one.
     pub fn decide(&mut self, trail: &mut Trail<'_>) -> Result<bool, NoMemory>
         requires usable { trail.old.broken ≡ false }
         requires sound { IsSound trail.old }
@@ -118,8 +118,7 @@ impl Decisions {
         }
     }
 
-    /// Notes that all will be taken back, and what was decided is to be decided again first. An `Err` says
-    /// that memory ran out.
+    /// Notes that all will be taken back, and what was decided is to be decided again first.
     pub fn take_all_back(&mut self, trail: &Trail<'_>) -> Result<(), NoMemory>
         requires usable { trail.now.broken ≡ false }
         requires sound { IsSound trail.now }
@@ -137,7 +136,7 @@ impl Decisions {
         Ok(())
     }
 
-    /// Notes that a literal is to be decided again, if it was decided. An `Err` says that memory ran out.
+    /// Notes that a literal is to be decided again, if it was decided.
     fn repeat_if(&mut self, literal: Literal, decided: bool) -> Result<(), NoMemory>
         ensures { self.new ≡ record self.old { repeated = self.new.repeated } }
     {
@@ -171,7 +170,7 @@ impl Decisions {
     }
 }
 
-/// The assignment of the literals that are set. An `Err` says that memory ran out.
+/// The assignment of the literals that are set.
 pub fn assignment_of(
     alloc: Global,
     trail: &Trail<'_>,

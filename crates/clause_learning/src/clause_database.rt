@@ -60,7 +60,7 @@ impl ClauseDatabase {
         self.formula + self.learnt.len() as u32
     }
 
-    /// Puts a clause of the log at the end. An `Err` says that memory ran out.
+    /// Puts a clause of the log at the end.
     pub fn add(&mut self, number: u64, used: u64) -> Result<(), NoMemory>
         ensures { OnOk result (numbers_of self.new ≡ numbers_of self.old ++ number ∷ []) }
     {
@@ -103,8 +103,7 @@ impl ClauseDatabase {
         learnt.used = learnt.used.max(now);
     }
 
-    /// Hints of the log in place of hints that name clauses on the trail, which are used now. An `Err`
-    /// says that memory ran out.
+    /// Hints of the log in place of hints that name clauses on the trail, which are used now.
     pub fn log_hints(
         &mut self,
         alloc: Global,
@@ -125,7 +124,7 @@ impl ClauseDatabase {
     }
 
     /// The learnt clauses on the trail that were used from then on, with the numbers of the formula's clauses and of
-    /// these. An `Err` says that memory ran out.
+    /// these.
     pub fn kept(
         &self,
         alloc: Global,
@@ -151,7 +150,7 @@ impl ClauseDatabase {
         Ok(kept)
     }
 
-    /// Keeps the clause at a place, if it was used from then on. An `Err` says that memory ran out.
+    /// Keeps the clause at a place, if it was used from then on.
     fn pass(
         &self,
         alloc: Global,

@@ -29,9 +29,8 @@ struct LearntClause {
 /// The most levels that are gone back at once where one level is enough.
 const MOST_LEVELS: u32 = 20;
 
-/// Learns a clause from a conflict above level 0, and goes back to the level that it teaches, or to
-/// level 0 where the search begins anew. Where it may step back, and that level is far, it goes back by one
-/// level. An `Err` says that memory ran out.
+/// Learns a clause from a conflict above level 0, and goes back to the level that it teaches, or to level 0 where the
+/// search begins anew. Where it may step back, and that level is far, it goes back by one level.
 pub fn learn(
     alloc: Global,
     trail: &mut Trail<'_>,
@@ -77,7 +76,7 @@ fn level_after(anew: bool, steps: bool, back: u32, level: u32) -> u32
     }
 }
 
-/// The log of the steps that is closed by a conflict at level 0. An `Err` says that memory ran out.
+/// The log of the steps that is closed by a conflict at level 0.
 pub fn refute(
     alloc: Global,
     trail: &Trail<'_>,
@@ -96,8 +95,7 @@ pub fn refute(
     Ok(proof_log.into_log())
 }
 
-/// What a conflict teaches: the clause of the first unique implication point. An `Err` says that
-/// memory ran out.
+/// What a conflict teaches: the clause of the first unique implication point.
 fn learnt_clause_of(
     alloc: Global,
     trail: &Trail<'_>,

@@ -18,7 +18,7 @@ pub struct NumberSet {
 }
 
 impl NumberSet {
-    /// The empty set, with room for the numbers below a limit. An `Err` says that memory ran out.
+    /// The empty set, with room for the numbers below a limit.
     pub fn new(alloc: Global, limit: u32) -> Result<NumberSet, NoMemory>
         requires { limit < 2 ^ 31 }
         ensures set { IfOk result IsNumberSet }

@@ -43,8 +43,7 @@ impl ProofLog {
         self.steps.len() as u64
     }
 
-    /// Takes the next step: the clause, by hints that name clauses on the trail, to which it is about to
-    /// be added. An `Err` says that memory ran out.
+    /// Takes the next step: the clause, by hints that name clauses on the trail, to which it is about to be added.
     pub fn add(&mut self, alloc: Global, clause: Clause, hints: &[u64]) -> Result<(), NoMemory>
         requires next { self.old.next + 1 < 2 ^ 64 }
         requires named { AreHints (length (numbers_of self.old.database)) hints.now }

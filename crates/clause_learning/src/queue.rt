@@ -32,7 +32,7 @@ pub struct VariableQueue {
 }
 
 impl VariableQueue {
-    /// All of the first variables, none of which is active. An `Err` says that memory ran out.
+    /// All of the first variables, none of which is active.
     pub fn new(alloc: Global, variables: u32) -> Result<VariableQueue, NoMemory>
         requires { variables < 2 ^ 31 }
         ensures queue { IfOk result IsVariableQueue }

@@ -27,7 +27,7 @@ pub struct Seen {
 }
 
 impl Seen {
-    /// No entry is seen of as many as there are variables. An `Err` says that memory ran out.
+    /// No entry is seen of as many as there are variables.
     pub fn new(alloc: Global, variables: u32) -> Result<Seen, NoMemory>
         ensures { IfOk result (AreNoneSeen variables) }
     {
@@ -64,7 +64,7 @@ impl Seen {
         self.waiting > 1
     }
 
-    /// Sees the entries of a clause's variables. An `Err` says that memory ran out.
+    /// Sees the entries of a clause's variables.
     pub fn see_clause(&mut self, trail: &Trail<'_>, number: u32) -> Result<(), NoMemory>
         requires trail { IsUsable trail.now }
         requires given { number < length trail.now.clauses }
@@ -118,7 +118,7 @@ impl Seen {
         self.waiting -= u32::from(is_present(trail, place));
     }
 
-    /// Sees the entry of a literal's variable. An `Err` says that memory ran out.
+    /// Sees the entry of a literal's variable.
     fn see(&mut self, trail: &Trail<'_>, literal: Literal) -> Result<(), NoMemory>
         requires trail { IsUsable trail.now }
         requires over { literal.index < trail.now.variables }
@@ -138,7 +138,7 @@ impl Seen {
         self.note(trail, literal.variable() - 1, place)
     }
 
-    /// Notes the variable of a seen entry, if that is above level 0. An `Err` says that memory ran out.
+    /// Notes the variable of a seen entry, if that is above level 0.
     fn note(&mut self, trail: &Trail<'_>, variable: u32, place: u32) -> Result<(), NoMemory>
         requires usable { trail.now.broken ≡ false }
         requires within { place < length trail.now.entries }

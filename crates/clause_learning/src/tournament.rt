@@ -43,7 +43,7 @@ pub struct Tournament {
 }
 
 impl Tournament {
-    /// None of the first variables may be decided. An `Err` says that memory ran out.
+    /// None of the first variables may be decided.
     pub fn new(alloc: Global, variables: u32) -> Result<Tournament, NoMemory>
         requires { variables < 2 ^ 31 }
         ensures tournament { IfOk result IsTournament }

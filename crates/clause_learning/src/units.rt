@@ -30,7 +30,7 @@ pub struct Units {
 }
 
 impl Units {
-    /// No clause is known, and at most so many may be added. An `Err` says that memory ran out.
+    /// No clause is known, and at most so many may be added.
     pub fn new(alloc: Global, variables: u32, most: u32) -> Result<Units, NoMemory>
         ensures units { IfOk result (λ units. (t : TrailState) → t.variables ≡ variables → AreUnits t units) }
         ensures added { IfOk result (λ units. units.added ≡ 0) }
@@ -98,8 +98,7 @@ impl Units {
         }
     }
 
-    /// Gives what is true at level 0 clauses of one literal, as long as more may be added. An `Err` says that
-    /// memory ran out.
+    /// Gives what is true at level 0 clauses of one literal, as long as more may be added.
     pub fn note_all(
         &mut self,
         alloc: Global,
@@ -121,8 +120,7 @@ impl Units {
         Ok(())
     }
 
-    /// Gives the literal at a place a clause of its own, where it has none, and hints for it are known. An `Err`
-    /// says that memory ran out.
+    /// Gives the literal at a place a clause of its own, where it has none, and hints for it are known.
     fn note_entry(
         &mut self,
         alloc: Global,
@@ -166,9 +164,8 @@ impl Units {
         self.count = self.count.max(number + 1);
     }
 
-    /// Hints that show the clause of this literal alone from a clause that has it: the clauses of one literal
-    /// for the opposites of its other literals, and the clause itself. None where one of them is not known. An
-    /// `Err` says that memory ran out.
+    /// Hints that show the clause of this literal alone from a clause that has it: the clauses of one literal for the
+    /// opposites of its other literals, and the clause itself. None where one of them is not known.
     fn hints_of(
         &self,
         alloc: Global,
@@ -192,8 +189,7 @@ impl Units {
         Ok(Some(hints))
     }
 
-    /// Adds the hint for one of the literals of a clause that has this one, and answers whether it is known. An
-    /// `Err` says that memory ran out.
+    /// Adds the hint for one of the literals of a clause that has this one, and answers whether it is known.
     fn show(
         &self,
         trail: &Trail<'_>,
@@ -216,7 +212,7 @@ impl Units {
         Ok(true)
     }
 
-    /// Adds the clause of this literal alone, with a step of the log. An `Err` says that memory ran out.
+    /// Adds the clause of this literal alone, with a step of the log.
     fn add(
         &mut self,
         alloc: Global,
@@ -240,7 +236,7 @@ impl Units {
     }
 }
 
-/// The clause of this literal alone. An `Err` says that memory ran out.
+/// The clause of this literal alone.
 fn clause_with(alloc: Global, literal: Literal) -> Result<Clause, NoMemory>
     ensures { IfOk result (λ clause. clause ≡ literal ∷ []) }
 {

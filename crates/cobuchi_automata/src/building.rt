@@ -59,9 +59,9 @@ fn build_by(alloc: Global, plan: &Plan) -> Result<Automaton, BuildError>
     Ok(automaton_of(alloc, plan, &found)?)
 }
 
-/// The automaton of a formula, whole: no state is left out, and no two are merged. A refusal says that
-/// a limit is passed: `Choices` that of the choices of a reached set, `States` that of the states, and
-/// `Edges` that of the edges; `NoMemory` says that memory ran out.
+/// The automaton of a formula, whole: no state is left out, and no two are merged. A refusal says that a limit is
+/// passed: `Choices` that of the choices of a reached set, `States` that of the states, and `Edges` that of the
+/// edges.
 pub fn build(alloc: Global, formula: &Ltl) -> Result<Automaton, BuildError>
     ensures automaton { IfOk result (λ made. (states : List StateTree) × (length states ≡ made.states)
         × IsAutomaton (ltl_tree formula.now) states (edge_trees made.edges)) }

@@ -75,8 +75,7 @@ fn add_untils_of_all<'a>(formulas: &'a LtlList, untils: &mut Vec<&'a Ltl>) -> Re
     Ok(())
 }
 
-/// The untils of a formula, each once, in the order in which they first appear from the left, outer
-/// ones first. An `Err` says that memory ran out.
+/// The untils of a formula, each once, in the order in which they first appear from the left, outer ones first.
 fn untils_of(alloc: Global, formula: &Ltl) -> Result<Vec<&Ltl>, NoMemory>
     ensures { IfOk result (λ untils. lent_trees untils.items ≡ untils_of (ltl_tree formula.now)) }
 {
@@ -98,8 +97,7 @@ fn numbers_of(alloc: Global, names: &[&Ltl], formulas: &[&Ltl]) -> Result<Vec<u3
     Ok(numbers)
 }
 
-/// The numbers of the untils of a formula, in the order of the untils. An `Err` says that memory ran
-/// out.
+/// The numbers of the untils of a formula, in the order of the untils.
 pub(crate) fn until_numbers(
     alloc: Global,
     names: &[&Ltl],

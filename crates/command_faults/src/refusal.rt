@@ -16,7 +16,7 @@ use tsl_reader::{MOST_NODES, SpecError};
 use tsl_report::{Fault, LimitName, TokenPart};
 use tsl_text::{Place, place_of};
 
-/// The fault of a refusal of this text. An `Err` says that memory ran out, here or at the reading.
+/// The fault of a refusal of this text.
 pub fn fault_of(alloc: Global, text: &[u8], error: &SpecError) -> Result<Fault, NoMemory>
     requires short { length text.now < 2 ^ 32 - 1 }
     requires stands { StandsIn text.now error.now }

@@ -19,9 +19,9 @@ use base_library::{NoMemory, Sequence};
 use std::alloc::Global;
 use tsl_terms::{Probe, Term};
 
-/// The controller of a program over the bits of a space: in each state and under each valuation it
-/// chooses the terms that the program assigns there, and goes to the same state. It walks through the
-/// program once for each state and valuation. An `Err` says that memory ran out.
+/// The controller of a program over the bits of a space: in each state and under each valuation it chooses the terms
+/// that the program assigns there, and goes to the same state. It walks through the program once for each state and
+/// valuation.
 pub fn controller_of(
     alloc: Global,
     program: &Program,

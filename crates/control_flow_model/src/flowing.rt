@@ -52,9 +52,9 @@ fn copied(alloc: Global, numbers: &Sequence<u32>) -> Result<Sequence<u32>, NoMem
     Ok(Sequence::from_vec(numbers.as_slice().to_vec(alloc)?))
 }
 
-/// The program of a controller over the bits of a space, for these signals and windows. It has a state for
-/// each state that the controller reaches from state 0, and walks from there by the predicate terms in
-/// their order to what the controller does; equal nodes are one. An `Err` says that memory ran out.
+/// The program of a controller over the bits of a space, for these signals and windows. It has a state for each state
+/// that the controller reaches from state 0, and walks from there by the predicate terms in their order to what the
+/// controller does; equal nodes are one.
 pub fn flow_of(
     alloc: Global,
     controller: &Controller,

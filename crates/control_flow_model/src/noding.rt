@@ -82,7 +82,7 @@ fn node_of(alloc: Global, space: &Space, kept: &[u32], part: &Part) -> Result<No
     }
 }
 
-/// The nodes of parts, where these states are kept. An `Err` says that memory ran out.
+/// The nodes of parts, where these states are kept.
 pub(crate) fn nodes_of(
     alloc: Global,
     space: &Space,

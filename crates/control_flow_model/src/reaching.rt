@@ -64,7 +64,7 @@ fn is_among(states: &[u32], state: u32) -> bool
     states.iter().any(|other| *other == state)
 }
 
-/// The states that a controller reaches from state 0, by rising number. An `Err` says that memory ran out.
+/// The states that a controller reaches from state 0, by rising number.
 pub(crate) fn reachable_states(alloc: Global, controller: &Controller) -> Result<Vec<u32>, NoMemory>
     ensures { IfOk result (λ kept. AreKept (controller_tree controller.now) kept.items) }
 {

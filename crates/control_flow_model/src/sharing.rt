@@ -22,7 +22,7 @@ pub(crate) struct Shared {
     pub(crate) roots: Vec<usize>,
 }
 
-/// The decision trees of states, in their order. An `Err` says that memory ran out.
+/// The decision trees of states, in their order.
 pub(crate) fn shared_trees(
     alloc: Global,
     controller: &Controller,

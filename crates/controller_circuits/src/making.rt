@@ -18,7 +18,7 @@ use std::alloc::Global;
 
 /// The circuit of a controller: in each state and under each valuation its outputs are the updates that the
 /// controller chooses, in the order of their bits, and its latches go on to the binary digits of the next state,
-/// least first. What is the same at all entries is a constant. An `Err` says that memory ran out.
+/// least first. What is the same at all entries is a constant.
 pub fn circuit_of(
     alloc: Global,
     controller: &Controller,

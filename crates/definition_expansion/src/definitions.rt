@@ -19,8 +19,7 @@ pub struct ReadDefinition<'a> {
     pub body: ReadFormula<'a>,
 }
 
-/// The names of the definitions, in order, by which a definition is found; `None` where one is defined
-/// twice. An `Err` says that memory ran out.
+/// The names of the definitions, in order, by which a definition is found; `None` where one is defined twice.
 pub fn heads(alloc: Global, definitions: &[ReadDefinition]) -> Result<Option<Names>, NoMemory>
     requires { length definitions.now < 2 ^ 32 }
     ensures some { IfOk result (λ found. IfSome found (λ names. AreHeads names definitions.now)) }

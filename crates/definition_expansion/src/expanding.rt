@@ -55,7 +55,7 @@ fn definition<'a, 'b>(
     }
 }
 
-/// A term in which each parameter is replaced, without brackets. An `Err` says that memory ran out.
+/// A term in which each parameter is replaced, without brackets.
 #[cycle(rename_terms)]
 fn renamed_term<'a>(
     alloc: Global,
@@ -75,7 +75,7 @@ fn renamed_term<'a>(
     }
 }
 
-/// Terms in which each parameter is replaced, without brackets. An `Err` says that memory ran out.
+/// Terms in which each parameter is replaced, without brackets.
 #[cycle(rename_terms)]
 fn renamed_terms<'a>(
     alloc: Global,
@@ -95,7 +95,7 @@ fn renamed_terms<'a>(
     ReadTerms::from_vec(alloc, list)
 }
 
-/// What the arguments stand for, where they are bare names. An `Err` says that memory ran out.
+/// What the arguments stand for, where they are bare names.
 fn bare_names<'a>(
     alloc: Global,
     passed: &Passed<'a, '_>,
@@ -116,7 +116,7 @@ fn bare_names<'a>(
     Ok(Some(names))
 }
 
-/// A formula in which each use is replaced, without brackets. An `Err` says that memory ran out.
+/// A formula in which each use is replaced, without brackets.
 #[cycle(expansion)]
 fn expanded<'a>(
     alloc: Global,
@@ -159,7 +159,7 @@ fn expanded<'a>(
     }
 }
 
-/// Formulas in which each use is replaced, without brackets. An `Err` says that memory ran out.
+/// Formulas in which each use is replaced, without brackets.
 #[cycle(expansion)]
 fn expanded_members<'a>(
     alloc: Global,
@@ -184,7 +184,7 @@ fn expanded_members<'a>(
     ReadFormulas::from_vec(alloc, list)
 }
 
-/// An atom that is a name alone. An `Err` says that memory ran out.
+/// An atom that is a name alone.
 #[cycle(expansion)]
 fn expanded_bare<'a>(
     alloc: Global,
@@ -205,7 +205,7 @@ fn expanded_bare<'a>(
     }
 }
 
-/// An atom that is a name with arguments. An `Err` says that memory ran out.
+/// An atom that is a name with arguments.
 #[cycle(expansion)]
 fn expanded_test<'a>(
     alloc: Global,
@@ -236,8 +236,7 @@ fn expanded_test<'a>(
     Ok(ReadFormula::Tested(stands_for(passed, name), arguments))
 }
 
-/// What stands in the place of a name with arguments, where they are a use. An `Err` says that memory ran
-/// out.
+/// What stands in the place of a name with arguments, where they are a use.
 #[cycle(expansion)]
 fn replacing_test<'a>(
     alloc: Global,
@@ -262,8 +261,7 @@ fn replacing_test<'a>(
     }
 }
 
-/// What stands in the place of a use of this name with these names, where it is defined. An `Err` says
-/// that memory ran out.
+/// What stands in the place of a use of this name with these names, where it is defined.
 #[cycle(expansion)]
 fn replacing<'a>(
     alloc: Global,
@@ -294,10 +292,10 @@ fn replacing<'a>(
     }
 }
 
-/// The formula in which each use is replaced, through so many definitions one within another, without
-/// brackets. With as many as there are definitions no use is left where none reaches itself. The heads are
-/// the names of the definitions, in order. Calls nest as deep as the levels of the expansion with its
-/// brackets, which are told without making it. An `Err` says that memory ran out.
+/// The formula in which each use is replaced, through so many definitions one within another, without brackets. With
+/// as many as there are definitions no use is left where none reaches itself. The heads are the names of the
+/// definitions, in order. Calls nest as deep as the levels of the expansion with its brackets, which are told without
+/// making it.
 pub fn expansion<'a>(
     alloc: Global,
     heads: &Names,

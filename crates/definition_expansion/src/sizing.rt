@@ -232,10 +232,9 @@ fn members_size(heads: &Names, sizes: &[Size], formulas: &ReadFormulas) -> Size
     Size { levels, nodes }
 }
 
-/// The sizes of what stands in the place of uses of definitions, in the order of the definitions, with no
-/// use left in it: the levels with its brackets, and the nodes. The heads are the names of the definitions,
-/// and in the order each uses only earlier ones. Each body is gone through once. An `Err` says that memory
-/// ran out.
+/// The sizes of what stands in the place of uses of definitions, in the order of the definitions, with no use left in
+/// it: the levels with its brackets, and the nodes. The heads are the names of the definitions, and in the order each
+/// uses only earlier ones. Each body is gone through once.
 pub fn sizes(
     alloc: Global,
     heads: &Names,

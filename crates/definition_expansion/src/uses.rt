@@ -15,7 +15,7 @@ use spec_syntax::{ReadFormula, ReadFormulas};
 use std::alloc::Global;
 use tsl_terms::Names;
 
-/// Adds the number of the definition of a name, if it is defined. An `Err` says that memory ran out.
+/// Adds the number of the definition of a name, if it is defined.
 fn add_use(heads: &Names, name: &[u8], uses: &mut Vec<u32>) -> Result<(), NoMemory>
     ensures { OnOk result (uses.new.items ≡ uses.old.items ++ numbers_of heads.now (name.now ∷ [])) }
 {
@@ -25,7 +25,7 @@ fn add_use(heads: &Names, name: &[u8], uses: &mut Vec<u32>) -> Result<(), NoMemo
     Ok(())
 }
 
-/// Adds the numbers of the definitions that a formula uses. An `Err` says that memory ran out.
+/// Adds the numbers of the definitions that a formula uses.
 #[cycle(adding_uses)]
 fn add_uses(heads: &Names, formula: &ReadFormula, uses: &mut Vec<u32>) -> Result<(), NoMemory>
     ensures { OnOk result (uses.new.items
@@ -51,7 +51,7 @@ fn add_uses(heads: &Names, formula: &ReadFormula, uses: &mut Vec<u32>) -> Result
     }
 }
 
-/// Adds the numbers of the definitions that formulas use. An `Err` says that memory ran out.
+/// Adds the numbers of the definitions that formulas use.
 #[cycle(adding_uses)]
 fn add_uses_of_members(
     heads: &Names,
@@ -69,7 +69,7 @@ fn add_uses_of_members(
     Ok(())
 }
 
-/// For each definition the numbers of those that it uses. An `Err` says that memory ran out.
+/// For each definition the numbers of those that it uses.
 pub(crate) fn uses_of_each(
     alloc: Global,
     heads: &Names,

@@ -52,7 +52,7 @@ impl Search {
         self.places[number as usize]
     }
 
-    /// Goes on to a number that was not met. An `Err` says that memory ran out.
+    /// Goes on to a number that was not met.
     fn enter(&mut self, graph: &[Vec<u32>], number: u32) -> Result<(), NoMemory>
         requires search { IsSearchOf (graph_of graph.now) self.old }
         requires fresh { slice_get self.old.places.items number ≡ Some None }
@@ -72,7 +72,7 @@ impl Search {
         Ok(())
     }
 
-    /// Goes on with a number of which one more use, which was met, is looked at. An `Err` says that memory ran out.
+    /// Goes on with a number of which one more use, which was met, is looked at.
     fn look(&mut self, last: Step, used: u32, place: usize) -> Result<(), NoMemory>
         requires left { 0 < last.left }
         requires place { slice_get self.old.places.items used ≡ Some (Some place) }
@@ -102,7 +102,7 @@ impl Search {
         low
     }
 
-    /// Lets the last number of the path reach what another that it reaches does. An `Err` says that memory ran out.
+    /// Lets the last number of the path reach what another that it reaches does.
     fn lower(&mut self, low: usize) -> Result<(), NoMemory>
         ensures path { OnOk result (reverse self.new.path.items ≡ lowered low (reverse self.old.path.items)) }
         ensures is { self.new ≡ record self.old { path = self.new.path } }
@@ -114,7 +114,7 @@ impl Search {
         Ok(())
     }
 
-    /// Leaves a number whose uses were all looked at. An `Err` says that memory ran out.
+    /// Leaves a number whose uses were all looked at.
     fn leave(&mut self, last: Step) -> Result<(), NoMemory>
         requires { last.left ≡ 0 }
         ensures { OnOk result ((graph : List (List ℕ)) → IsSearch graph self.old (last ∷ reverse self.old.path.items) →
@@ -130,8 +130,7 @@ impl Search {
         Ok(())
     }
 
-    /// Looks at the next use of the last number of the path, which was taken from it, or leaves it. An `Err` says that memory
-    /// ran out.
+    /// Looks at the next use of the last number of the path, which was taken from it, or leaves it.
     fn step(&mut self, graph: &[Vec<u32>], last: Step) -> Result<(), NoMemory>
         requires graph { IsGraph (graph_of graph.now) }
         requires search { IsSearch (graph_of graph.now) self.old (last ∷ reverse self.old.path.items) }
@@ -154,7 +153,7 @@ impl Search {
         }
     }
 
-    /// Walks from a number, if it was not met, until all that it reaches is gone through. An `Err` says that memory ran out.
+    /// Walks from a number, if it was not met, until all that it reaches is gone through.
     fn walk_from(&mut self, graph: &[Vec<u32>], start: u32) -> Result<(), NoMemory>
         requires graph { IsGraph (graph_of graph.now) }
         requires search { IsSearchOf (graph_of graph.now) self.old }
@@ -205,7 +204,7 @@ fn told(least: Option<u32>, last: Step) -> Option<u32>
     }
 }
 
-/// The walk that went through all numbers of a graph. An `Err` says that memory ran out.
+/// The walk that went through all numbers of a graph.
 fn searched(alloc: Global, graph: &[Vec<u32>]) -> Result<Search, NoMemory>
     requires graph { IsGraph (graph_of graph.now) }
     requires count { length graph.now < 2 ^ 32 }
@@ -224,8 +223,8 @@ fn searched(alloc: Global, graph: &[Vec<u32>]) -> Result<Search, NoMemory>
     Ok(search)
 }
 
-/// The numbers of a graph, each once, in an order in which each goes only to earlier ones; `None` where some
-/// number reaches itself. Each step of the graph is looked at twice at most. An `Err` says that memory ran out.
+/// The numbers of a graph, each once, in an order in which each goes only to earlier ones; `None` where some number
+/// reaches itself. Each step of the graph is looked at twice at most.
 pub fn order(alloc: Global, graph: &[Vec<u32>]) -> Result<Option<Vec<u32>>, NoMemory>
     requires graph { IsGraph (graph_of graph.now) }
     requires count { length graph.now < 2 ^ 32 }
@@ -243,7 +242,7 @@ pub fn order(alloc: Global, graph: &[Vec<u32>]) -> Result<Option<Vec<u32>>, NoMe
 }
 
 /// The first number of a graph that reaches itself; `None` where none does. Each number and each step of the graph is looked at
-/// a few times at most. An `Err` says that memory ran out.
+/// a few times at most.
 pub fn first_on_cycle(alloc: Global, graph: &[Vec<u32>]) -> Result<Option<u32>, NoMemory>
     requires graph { IsGraph (graph_of graph.now) }
     requires count { length graph.now < 2 ^ 32 }

@@ -81,8 +81,7 @@ fn needed_number(
     }
 }
 
-/// The numbers of the names that entries are for. An `Err` tells the first one that is not needed in its
-/// kind, or that memory ran out.
+/// The numbers of the names that entries are for. An `Err` tells the first one that is not needed in its kind.
 fn entry_numbers<E: Named>(
     alloc: Global,
     names: &Names,
@@ -170,7 +169,7 @@ fn first_missing<E: Named>(
 /// For each name the place of its entry, where each needed name has one entry, and there is none for
 /// another name or in another kind.
 ///
-/// An `Err` has the first cause why that is not so, or says that memory ran out.
+/// An `Err` has the first cause why that is not so.
 pub fn entry_places<E: Named>(
     alloc: Global,
     names: &Names,

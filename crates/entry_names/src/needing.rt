@@ -50,8 +50,8 @@ pub fn is_symbol_number(names: &Names, equality: Option<u32>, id: u32) -> bool
     has_table(names.kind(id)) && !is_equality(names, equality, id)
 }
 
-/// The names that an interpretation is for: the functions and the predicates other than equality by their
-/// numbers, and then the cells. An `Err` says that memory ran out.
+/// The names that an interpretation is for: the functions and the predicates other than equality by their numbers,
+/// and then the cells.
 pub fn needed(alloc: Global, names: &Names, cells: &[u32]) -> Result<Vec<u32>, NoMemory>
     requires { All (λ s. s < length names.now) cells.now }
     ensures all { IfOk result (λ all. all.items ≡ needed names.now cells.now) }

@@ -7,7 +7,7 @@ ghost use Rattle.entry_names.specs.Places.{AreMarksOf, ArePlaces, IsRepeatFault}
 use base_library::NoMemory;
 use std::alloc::Global;
 
-/// For each of so many numbers whether it is among these. An `Err` says that memory ran out.
+/// For each of so many numbers whether it is among these.
 pub(crate) fn marks(alloc: Global, count: u32, numbers: &[u32]) -> Result<Vec<bool>, NoMemory>
     requires { All (λ n. n < count) numbers.now }
     ensures { IfOk result (λ marks. AreMarksOf count numbers.now marks.items) }
@@ -46,8 +46,8 @@ pub fn place_of(places: &[Option<usize>], number: u32) -> Option<usize>
     places[number as usize]
 }
 
-/// For each of so many numbers the place where it stands. An `Err` tells the first place with a number that
-/// stands at an earlier one too, or that memory ran out.
+/// For each of so many numbers the place where it stands. An `Err` tells the first place with a number that stands at
+/// an earlier one too.
 pub(crate) fn places(
     alloc: Global,
     count: u32,

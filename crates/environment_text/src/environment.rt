@@ -24,9 +24,8 @@ use term_text::{put_probe, put_update};
 use tsl_terms::{Names, Probe};
 use tsl_text::{put_bytes, put_number};
 
-/// The text of an environment: how many states it has, the predicate terms and the vectors of the
-/// space by their numbers, and for each state what is true there and where each vector leads. An
-/// `Err` says that memory ran out.
+/// The text of an environment: how many states it has, the predicate terms and the vectors of the space by their
+/// numbers, and for each state what is true there and where each vector leads.
 ///
 /// The names hold each number of the space's terms, and the environment fits the space.
 pub fn environment_text(

@@ -16,7 +16,7 @@ use std::alloc::Global;
 use term_text::put_window;
 use tsl_terms::{Names, Window};
 
-/// The line of a window. An `Err` says that memory ran out.
+/// The line of a window.
 ///
 /// The names hold each number of the window.
 pub fn window_text(alloc: Global, names: &Names, window: &Window) -> Result<Vec<u8>, NoMemory>
@@ -28,8 +28,7 @@ pub fn window_text(alloc: Global, names: &Names, window: &Window) -> Result<Vec<
     Ok(out)
 }
 
-/// The text of rounds, numbered from 0: for each its environment, and the line of its window. An
-/// `Err` says that memory ran out.
+/// The text of rounds, numbered from 0: for each its environment, and the line of its window.
 ///
 /// The names hold each number of the space's terms and of the windows, and each environment fits
 /// the space.

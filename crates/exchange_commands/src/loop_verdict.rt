@@ -61,7 +61,7 @@ fn reply_to_parts(alloc: Global, automaton: &[u8], letters: &[u8]) -> Result<Rep
     }
 }
 
-/// The fault of a refusal of an automaton. An `Err` says that memory ran out at the reading.
+/// The fault of a refusal of an automaton.
 fn automaton_fault(error: HoaError) -> Result<Fault, NoMemory>
     ensures { IfOk result (IsAutomatonFault error) }
 {

@@ -153,7 +153,7 @@ fn key_of(alloc: Global, text: &[u8], equality: &SpelledPlaced) -> Result<Vec<u6
     Ok(key)
 }
 
-/// Whether no equality stands twice at one step. An `Err` says that memory ran out.
+/// Whether no equality stands twice at one step.
 fn none_stands_twice(
     alloc: Global,
     text: &[u8],
@@ -173,8 +173,7 @@ fn none_stands_twice(
     Ok(true)
 }
 
-/// Whether tests are equalities at steps up to the length, which do not fall, and none stands twice
-/// at one step. An `Err` says that memory ran out.
+/// Whether tests are equalities at steps up to the length, which do not fall, and none stands twice at one step.
 #[tactic(auto, using(crate::proofs::EqualityKeys::in_order))]
 pub(crate) fn are_equalities(
     alloc: Global,

@@ -10,7 +10,7 @@ use crate::uses::SpelledUse;
 use base_library::NoMemory;
 use tsl_terms::{NameKind, Names};
 
-/// Adds a name where there is none of its text. An `Err` says that memory ran out.
+/// Adds a name where there is none of its text.
 fn add_name(names: &mut Names, text: &[u8], kind: NameKind, arity: u32) -> Result<(), NoMemory>
     requires { number_of names.old text.now ≡ None → length names.old + 1 < 2 ^ 32 }
     ensures { OnOk result
@@ -22,7 +22,7 @@ fn add_name(names: &mut Names, text: &[u8], kind: NameKind, arity: u32) -> Resul
     Ok(())
 }
 
-/// Adds the names that get numbers by a use. An `Err` says that memory ran out.
+/// Adds the names that get numbers by a use.
 fn add_use(names: &mut Names, usage: &SpelledUse) -> Result<(), NoMemory>
     requires { length (with_uses names.old (entries_of_use (use_view usage.now))) < 2 ^ 32 }
     ensures { OnOk result (names.new ≡ with_uses names.old (entries_of_use (use_view usage.now))) }
@@ -34,7 +34,7 @@ fn add_use(names: &mut Names, usage: &SpelledUse) -> Result<(), NoMemory>
     Ok(())
 }
 
-/// The given names, and then those of uses. An `Err` says that memory ran out.
+/// The given names, and then those of uses.
 pub(crate) fn names_after(mut names: Names, uses: &[SpelledUse]) -> Result<Names, NoMemory>
     requires { length (names_after names (map use_view uses.now)) < 2 ^ 32 }
     ensures { IfOk result (λ all. all ≡ names_after names (map use_view uses.now)) }

@@ -55,7 +55,7 @@ fn numbered(names: &Names, text: &[u8], name: Name) -> u32
     names.find(name_bytes(text, name)).unwrap()
 }
 
-/// A term with numbers. An `Err` says that memory ran out.
+/// A term with numbers.
 #[cycle(number_terms)]
 fn numbered_term(
     alloc: Global,
@@ -78,7 +78,7 @@ fn numbered_term(
     }
 }
 
-/// A list of terms with numbers. An `Err` says that memory ran out.
+/// A list of terms with numbers.
 #[cycle(number_terms)]
 fn numbered_terms(
     alloc: Global,
@@ -101,7 +101,7 @@ fn numbered_terms(
     TermList::from_vec(alloc, trees)
 }
 
-/// A test with numbers. An `Err` says that memory ran out.
+/// A test with numbers.
 fn numbered_test(
     alloc: Global,
     names: &Names,
@@ -133,7 +133,7 @@ fn numbered_test(
     }
 }
 
-/// The numbers of names. An `Err` says that memory ran out.
+/// The numbers of names.
 fn numbers(
     alloc: Global,
     names: &Names,
@@ -173,7 +173,7 @@ trait GetsNumbers {
     /// It with the numbers of its names.
     ghost numbered: { List NameEntry → List ℕ → Tree → Option Made };
 
-    /// The part with numbers. An `Err` says that memory ran out.
+    /// The part with numbers.
     fn with_numbers(
         &self,
         alloc: Global,
@@ -186,7 +186,7 @@ trait GetsNumbers {
             numbered names.now text.now (tree self.now) ≡ Some (made part)) };
 }
 
-/// Parts with numbers. An `Err` says that memory ran out.
+/// Parts with numbers.
 fn numbered_all<P: GetsNumbers>(
     alloc: Global,
     names: &Names,
@@ -277,7 +277,7 @@ impl GetsNumbers for SpelledPlaced {
     }
 }
 
-/// A left test with numbers, where there is one. An `Err` says that memory ran out.
+/// A left test with numbers, where there is one.
 fn numbered_left(
     alloc: Global,
     names: &Names,
@@ -369,7 +369,7 @@ impl GetsNumbers for SpelledNode {
     }
 }
 
-/// The first nodes of states. An `Err` says that memory ran out.
+/// The first nodes of states.
 fn numbered_states(alloc: Global, states: &[u64]) -> Result<Sequence<u32>, NoMemory>
     requires { IsTrue (is_some (all_there (map small states.now))) }
     ensures { IfOk result (λ numbers. all_there (map small states.now) ≡ Some numbers) }
@@ -381,7 +381,7 @@ fn numbered_states(alloc: Global, states: &[u64]) -> Result<Sequence<u32>, NoMem
     Ok(numbers)
 }
 
-/// The program of lines that keep the rules, with numbers. An `Err` says that memory ran out.
+/// The program of lines that keep the rules, with numbers.
 pub(crate) fn numbered_program(
     alloc: Global,
     names: &Names,

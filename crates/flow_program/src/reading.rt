@@ -102,7 +102,7 @@ struct Signals {
     controlled: Vec<Name>,
 }
 
-/// Two lists as one. An `Err` says that memory ran out.
+/// Two lists as one.
 fn joined(alloc: Global, left: &[Name], right: &[Name]) -> Result<Vec<Name>, NoMemory>
     ensures { IfOk result (λ both. both.items ≡ left.now ++ right.now) }
 {
@@ -111,7 +111,7 @@ fn joined(alloc: Global, left: &[Name], right: &[Name]) -> Result<Vec<Name>, NoM
     Ok(both)
 }
 
-/// The names of the signals that lines declare. An `Err` says that memory ran out.
+/// The names of the signals that lines declare.
 #[tactic(auto, using(crate::proofs::RuleLemmas::texts_are))]
 fn declared_signals(
     alloc: Global,
@@ -186,9 +186,8 @@ fn program_of(
 /// The program that a text spells, and its names: the given ones, and then those of the text in the
 /// order of their first uses, where `?` comes directly after the first signal that is a test alone.
 ///
-/// The given names may be written, and they and the bytes of the text are fewer than 2^32. An `Err`
-/// has the cause why the text spells no program, or says that memory ran out; the given names are
-/// dropped.
+/// The given names may be written, and they and the bytes of the text are fewer than 2^32. An `Err` has the cause why
+/// the text spells no program; the given names are dropped.
 pub fn read_program(
     alloc: Global,
     text: &[u8],

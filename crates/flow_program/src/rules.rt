@@ -44,7 +44,7 @@ pub(crate) fn first_window(listing: &ProgramSyntax) -> u32
     2 + declared as u32
 }
 
-/// The names that lines declare, which are distinct. An `Err` says that memory ran out.
+/// The names that lines declare, which are distinct.
 pub(crate) fn name_resolution(
     alloc: Global,
     text: &[u8],
@@ -249,8 +249,8 @@ fn are_listed(text: &[u8], cells: &Names, length: u64, updates: &[SpelledListed]
     true
 }
 
-/// Whether a window is too long, or its parts stand outside it or are not in order, or what has to
-/// be an equality is none. An `Err` says that memory ran out.
+/// Whether a window is too long, or its parts stand outside it or are not in order, or what has to be an equality is
+/// none.
 fn breaks_window(
     alloc: Global,
     text: &[u8],
@@ -270,8 +270,8 @@ fn breaks_window(
     Ok(!are_equalities(alloc, text, length, &window.equalities)?)
 }
 
-/// The first line of a window that is too long, or whose parts stand outside it or are not in order,
-/// or of which no equality is what has to be one. An `Err` says that memory ran out.
+/// The first line of a window that is too long, or whose parts stand outside it or are not in order, or of which no
+/// equality is what has to be one.
 fn window_line(
     alloc: Global,
     text: &[u8],
@@ -293,7 +293,7 @@ fn window_line(
     Ok(None)
 }
 
-/// The fault of a line, if any. An `Err` says that memory ran out.
+/// The fault of a line, if any.
 pub(crate) fn line_fault(
     alloc: Global,
     text: &[u8],

@@ -194,7 +194,7 @@ trait UsesNames {
     /// Its uses in a text, on this line.
     ghost uses: { List ℕ → ℕ → Tree → List ProgramUse };
 
-    /// Adds its uses. An `Err` says that memory ran out.
+    /// Adds its uses.
     fn add_uses<'a>(
         &self,
         list: &mut Vec<SpelledUse<'a>>,
@@ -408,7 +408,7 @@ fn add_all_declared<'a>(
     Ok(())
 }
 
-/// All uses of the lines of a text. An `Err` says that memory ran out.
+/// All uses of the lines of a text.
 pub(crate) fn all_uses<'a>(
     alloc: Global,
     text: &'a [u8],

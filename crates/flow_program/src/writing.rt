@@ -20,7 +20,7 @@ use term_text::{put_name, put_probe, put_update, put_window};
 use tsl_terms::{Names, Probe, Term, Window};
 use tsl_text::put_number;
 
-/// The one text that spells the program over the names. An `Err` says that memory ran out.
+/// The one text that spells the program over the names.
 ///
 /// The names hold each number in its kind and with its arity, and can be written; what has to be an
 /// equality in a window is one of the names; terms nest in brackets at most 200 deep; there are at

@@ -1,9 +1,8 @@
 //! The texts of formulas.
 //!
-//! `formula_text` gives the text of a formula: at Ok exactly the bytes that the definition of the
-//! same name gives. The one condition is that the names hold each number and that each conjunction
-//! and disjunction has two members at least, which holds of the whole formula of every
-//! specification that is read. An `Err` says that memory ran out. The time is linear in the text;
+//! `formula_text` gives the text of a formula: at Ok exactly the bytes that the definition of the same name gives.
+//! The one condition is that the names hold each number and that each conjunction and disjunction has two members at
+//! least, which holds of the whole formula of every specification that is read. The time is linear in the text;
 //! formulas in formulas are written by recursion, lists of members are gone along by a loop.
 #![tactic(auto)]
 

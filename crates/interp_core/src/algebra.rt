@@ -19,7 +19,7 @@ pub trait Algebra {
     /// What each symbol means over what is seen.
     ghost meanings: { Self → Meanings Seen };
 
-    /// The value of a function on these arguments. An `Err` says that memory ran out.
+    /// The value of a function on these arguments.
     fn apply(
         &self,
         alloc: Global,
@@ -29,12 +29,12 @@ pub trait Algebra {
         requires had { IsSome ((meanings self.now).function function (map seen arguments.now)) }
         ensures { IfOk result (λ v. (meanings self.now).function function (map seen arguments.now) ≡ Some (seen v)) };
 
-    /// The value that a cell has at first. An `Err` says that memory ran out.
+    /// The value that a cell has at first.
     fn initial(&self, alloc: Global, cell: u32) -> Result<Self::Value, NoMemory>
         requires had { IsSome ((meanings self.now).initial cell) }
         ensures { IfOk result (λ v. (meanings self.now).initial cell ≡ Some (seen v)) };
 
-    /// The same value once more. An `Err` says that memory ran out.
+    /// The same value once more.
     fn copy(&self, alloc: Global, value: &Self::Value) -> Result<Self::Value, NoMemory>
         ensures { IfOk result (λ v. seen v ≡ seen value.now) };
 

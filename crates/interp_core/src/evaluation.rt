@@ -11,7 +11,7 @@ use base_library::NoMemory;
 use std::alloc::Global;
 use tsl_terms::{Probe, Term, TermList};
 
-/// The value of a term, where the leaves give the values of signals. An `Err` says that memory ran out.
+/// The value of a term, where the leaves give the values of signals.
 pub fn evaluate<A: Algebra>(
     alloc: Global,
     algebra: &A,
@@ -45,7 +45,7 @@ fn copy_of<A: Algebra>(
 }
 
 /// Puts the value of a term at the end of a list, where the leaves give the values of signals. The values of its
-/// arguments stand there in between, so no list is made for them. An `Err` says that memory ran out.
+/// arguments stand there in between, so no list is made for them.
 #[cycle(evaluation)]
 pub fn push_value<A: Algebra>(
     alloc: Global,
@@ -103,7 +103,7 @@ fn apply_to_last<A: Algebra>(
     Ok(())
 }
 
-/// Puts the values of a list of terms, in its order, at the end of a list. An `Err` says that memory ran out.
+/// Puts the values of a list of terms, in its order, at the end of a list.
 #[cycle(evaluation)]
 pub fn push_values<A: Algebra>(
     alloc: Global,
@@ -125,7 +125,7 @@ pub fn push_values<A: Algebra>(
     Ok(())
 }
 
-/// Whether a predicate holds of the values of its arguments. An `Err` says that memory ran out.
+/// Whether a predicate holds of the values of its arguments.
 pub fn test_term<J: Judge>(
     alloc: Global,
     judge: &J,

@@ -39,7 +39,7 @@ impl Drop for FreeList {
 }
 
 impl FreeList {
-    /// The list of these free terms, in their order. An `Err` says that memory ran out.
+    /// The list of these free terms, in their order.
     #[tactic(auto, using(crate::proofs::FreeLists::front_of_none, crate::proofs::FreeLists::with_front_push))]
     pub fn from_vec(alloc: Global, mut terms: Vec<FreeTerm>) -> Result<FreeList, NoMemory>
         ensures { IfOk result (λ list. free_trees list ≡ frees_of (map free_tree terms.items)) }

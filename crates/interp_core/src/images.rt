@@ -12,8 +12,7 @@ use crate::leaves::Leaves;
 use base_library::NoMemory;
 use std::alloc::Global;
 
-/// The image of a free term: its value where a row for each step from 0 on gives the values of signals. An `Err`
-/// says that memory ran out.
+/// The image of a free term: its value where a row for each step from 0 on gives the values of signals.
 #[cycle(images)]
 pub fn image<A: Algebra>(
     alloc: Global,

@@ -23,7 +23,7 @@ pub struct LetterLoop {
     pub back: u64,
 }
 
-/// Appends the text of a loop. An `Err` says that memory ran out.
+/// Appends the text of a loop.
 pub fn write_letters(out: &mut Vec<u8>, letters: &LetterLoop) -> Result<(), NoMemory>
     ensures { OnOk result (out.new.items ≡ out.old.items ++ loop_text (loop_tree letters.now)) }
 {

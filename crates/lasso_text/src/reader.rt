@@ -83,9 +83,8 @@ impl LineReader for LettersReader {
     }
 }
 
-/// The loop of letters over so many propositions that a text tells, the last line with its line feed
-/// or without. An `Err` tells the first line with which no such text goes on, or that memory ran
-/// out.
+/// The loop of letters over so many propositions that a text tells, the last line with its line feed or without. An
+/// `Err` tells the first line with which no such text goes on.
 #[tactic(auto, using(crate::proofs::LoopLaws::first_wrong_line))]
 pub fn read_letters(alloc: Global, text: &[u8], bits: u32) -> Result<LetterLoop, TextError>
     requires { length text.now + 1 < 2 ^ 32 }

@@ -18,10 +18,9 @@ use base_library::{NoMemory, Sequence};
 use std::alloc::Global;
 use tsl_terms::{Spec, choices, predicates, signals};
 
-/// The bits of a specification: its predicate terms, by first appearance, then the choices of each
-/// cell and then those of each output, signals in the order of the names. It is refused where there
-/// are more than 10 predicate terms, and otherwise where there are more than 64 bits. An `Err` may
-/// also say that memory ran out.
+/// The bits of a specification: its predicate terms, by first appearance, then the choices of each cell and then
+/// those of each output, signals in the order of the names. It is refused where there are more than 10 predicate
+/// terms, and otherwise where there are more than 64 bits.
 pub fn space_of(alloc: Global, spec: &Spec) -> Result<Space, SpaceError>
     ensures space { IfOk result (λ space. space_tree space ≡ spec_space (spec_tree spec.now)) }
     ensures cause { IfErr result (HasSpaceCause (spec_tree spec.now)) }

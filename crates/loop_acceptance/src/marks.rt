@@ -96,7 +96,7 @@ impl Model for Marks {
 }
 
 impl Marks {
-    /// So many marks, which are all new. An `Err` says that memory ran out.
+    /// So many marks, which are all new.
     pub fn new(alloc: Global, count: usize, pairing: Pairing) -> Result<Marks, NoMemory>
         requires few { count ≤ 2 ^ 32 }
         requires few_states { pairing.states ≤ 2 ^ 32 }

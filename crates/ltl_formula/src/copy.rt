@@ -7,7 +7,7 @@ use crate::formula::{Ltl, LtlList};
 use base_library::NoMemory;
 use std::alloc::Global;
 
-/// An equal formula. An `Err` says that memory ran out.
+/// An equal formula.
 #[cycle(copy)]
 #[tactic(auto, using(crate::proofs::ListLemmas::formulas_of_members))]
 pub fn copy_ltl(alloc: Global, formula: &Ltl) -> Result<Ltl, NoMemory>

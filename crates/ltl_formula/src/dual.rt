@@ -9,8 +9,8 @@ use crate::formula::{Ltl, LtlList};
 use base_library::NoMemory;
 use std::alloc::Global;
 
-/// The formula that holds on exactly the letter loops, and at exactly the positions, at which this one
-/// fails: each form is exchanged with its opposite. An `Err` says that memory ran out.
+/// The formula that holds on exactly the letter loops, and at exactly the positions, at which this one fails: each
+/// form is exchanged with its opposite.
 pub fn negate(alloc: Global, formula: &Ltl) -> Result<Ltl, NoMemory>
     ensures dual { IfOk result (λ made. ltl_tree made ≡ dual (ltl_tree formula.now)) }
     ensures fails { IfOk result (λ made. (loop : LetterLoop) (i : ℕ) →
@@ -20,7 +20,7 @@ pub fn negate(alloc: Global, formula: &Ltl) -> Result<Ltl, NoMemory>
     Ok(made)
 }
 
-/// Each form exchanged with its opposite. An `Err` says that memory ran out.
+/// Each form exchanged with its opposite.
 #[cycle(dual)]
 #[tactic(auto, using(crate::proofs::ListLemmas::formulas_of_members))]
 fn dual_of(alloc: Global, formula: &Ltl) -> Result<Ltl, NoMemory>

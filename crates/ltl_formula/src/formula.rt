@@ -55,7 +55,7 @@ impl Drop for LtlList {
 }
 
 impl LtlList {
-    /// The list of these formulas, in their order. An `Err` says that memory ran out.
+    /// The list of these formulas, in their order.
     #[tactic(auto, using(crate::proofs::ListLemmas::with_front_none, crate::proofs::ListLemmas::with_front_push))]
     pub fn from_vec(alloc: Global, mut formulas: Vec<Ltl>) -> Result<LtlList, NoMemory>
         ensures { IfOk result (λ list. ltl_trees list ≡ ltl_formulas_of (map ltl_tree formulas.items)) }

@@ -10,7 +10,7 @@ use spec_syntax::ReadDeclaration;
 use std::alloc::Global;
 use tsl_terms::{NameKind, Names};
 
-/// Adds a name where there is none of its text. An `Err` says that memory ran out.
+/// Adds a name where there is none of its text.
 pub(crate) fn add_name(
     names: &mut Names,
     text: &[u8],
@@ -28,8 +28,7 @@ pub(crate) fn add_name(
     Ok(())
 }
 
-/// Adds the name that a declaration defines, where it is a definition and there is none of its text. An
-/// `Err` says that memory ran out.
+/// Adds the name that a declaration defines, where it is a definition and there is none of its text.
 pub(crate) fn add_declared(names: &mut Names, declaration: &ReadDeclaration) -> Result<(), NoMemory>
     requires { length names.old + head_size (declaration_syntax declaration.now) < 2 ^ 32 }
     ensures added { OnOk result (names.new
@@ -48,8 +47,7 @@ pub(crate) fn add_declared(names: &mut Names, declaration: &ReadDeclaration) -> 
     }
 }
 
-/// The defined names of a text in the order of the text, each with the number of parameters of its
-/// first definition. An `Err` says that memory ran out.
+/// The defined names of a text in the order of the text, each with the number of parameters of its first definition.
 pub fn heads(alloc: Global, declarations: &[ReadDeclaration]) -> Result<Names, NoMemory>
     requires { heads_size (map declaration_syntax declarations.now) < 2 ^ 32 }
     ensures { IfOk result (λ names. names

@@ -54,7 +54,7 @@ fn is_head_of(name: &[u8], occurrence: &ReadOccurrence) -> bool
     is_head(occurrence.role) && name == occurrence.text
 }
 
-/// Adds a plain name where there is none of its text. An `Err` says that memory ran out.
+/// Adds a plain name where there is none of its text.
 fn add_plain(names: &mut Names, occurrence: &ReadOccurrence) -> Result<(), NoMemory>
     requires { length names.old + 1 < 2 ^ 32 }
     ensures added { OnOk result (names.new
@@ -67,7 +67,7 @@ fn add_plain(names: &mut Names, occurrence: &ReadOccurrence) -> Result<(), NoMem
     add_name(names, occurrence.text, occurrence.kind, occurrence.arity)
 }
 
-/// The plain names of a text, each as it stands first. An `Err` says that memory ran out.
+/// The plain names of a text, each as it stands first.
 pub fn plain_names(alloc: Global, occurrences: &[ReadOccurrence]) -> Result<Names, NoMemory>
     requires { length occurrences.now < 2 ^ 32 }
     ensures { IfOk result (λ names. names

@@ -17,7 +17,7 @@ pub(crate) struct Parameters {
     pub(crate) repeated: Names,
 }
 
-/// Adds a parameter to those before it. An `Err` says that memory ran out.
+/// Adds a parameter to those before it.
 fn add_parameter(names: &mut Names, repeated: &mut Names, parameter: &[u8]) -> Result<(), NoMemory>
     requires names { length names.old + 1 < 2 ^ 32 }
     requires repeated { length repeated.old + 1 < 2 ^ 32 }
@@ -35,7 +35,7 @@ fn add_parameter(names: &mut Names, repeated: &mut Names, parameter: &[u8]) -> R
     }
 }
 
-/// The parameters of a definition. An `Err` says that memory ran out.
+/// The parameters of a definition.
 pub(crate) fn parameters_of(alloc: Global, parameters: &[&[u8]]) -> Result<Parameters, NoMemory>
     requires { length parameters.now < 2 ^ 32 }
     ensures names { IfOk result (λ found. (x : List ℕ) → is_name found.names x

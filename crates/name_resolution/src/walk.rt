@@ -136,7 +136,7 @@ fn count_of_arguments(terms: &ReadTerms) -> u32
     count
 }
 
-/// Adds a name of a term. An `Err` says that memory ran out.
+/// Adds a name of a term.
 fn add_name_of_term<'a>(
     list: &mut Vec<ReadOccurrence<'a>>,
     scope: &ReadScope,
@@ -161,7 +161,7 @@ fn add_name_of_term<'a>(
     Ok(())
 }
 
-/// Adds the names of a term. An `Err` says that memory ran out.
+/// Adds the names of a term.
 #[tactic(auto, using(crate::proofs::Counts::count_within))]
 #[cycle(term_names)]
 fn add_term<'a>(
@@ -185,7 +185,7 @@ fn add_term<'a>(
     }
 }
 
-/// Adds the names of the terms of a list. An `Err` says that memory ran out.
+/// Adds the names of the terms of a list.
 #[cycle(term_names)]
 fn add_terms<'a>(
     list: &mut Vec<ReadOccurrence<'a>>,
@@ -216,7 +216,7 @@ fn level_of_right(op: BinaryOperator, level: u32) -> u32
     }
 }
 
-/// Adds a name that stands alone as an atom. An `Err` says that memory ran out.
+/// Adds a name that stands alone as an atom.
 fn add_alone<'a>(
     list: &mut Vec<ReadOccurrence<'a>>,
     scope: &ReadScope,
@@ -238,7 +238,7 @@ fn add_alone<'a>(
     Ok(())
 }
 
-/// Adds the names of an atom with arguments. An `Err` says that memory ran out.
+/// Adds the names of an atom with arguments.
 #[tactic(auto, using(crate::proofs::Counts::count_within))]
 fn add_test<'a>(
     list: &mut Vec<ReadOccurrence<'a>>,
@@ -264,7 +264,7 @@ fn add_test<'a>(
     add_terms(list, scope, level, arguments)
 }
 
-/// Adds the names of a formula. An `Err` says that memory ran out.
+/// Adds the names of a formula.
 #[cycle(formula_names)]
 fn add_formula<'a>(
     list: &mut Vec<ReadOccurrence<'a>>,
@@ -296,7 +296,7 @@ fn add_formula<'a>(
     }
 }
 
-/// Adds the names of the formulas of a list. An `Err` says that memory ran out.
+/// Adds the names of the formulas of a list.
 #[cycle(formula_names)]
 fn add_members<'a>(
     list: &mut Vec<ReadOccurrence<'a>>,
@@ -318,7 +318,7 @@ fn add_members<'a>(
     Ok(())
 }
 
-/// Adds the names of a section. An `Err` says that memory ran out.
+/// Adds the names of a section.
 fn add_section<'a>(
     list: &mut Vec<ReadOccurrence<'a>>,
     scope: &ReadScope,
@@ -375,8 +375,7 @@ fn parameter_role(heads: &Names, repeated: &Names, name: &[u8]) -> Role
     }
 }
 
-/// Adds a defined name where it is defined, behind definitions of these names. An `Err` says that memory
-/// ran out.
+/// Adds a defined name where it is defined, behind definitions of these names.
 fn add_head<'a>(
     list: &mut Vec<ReadOccurrence<'a>>,
     before: &Names,
@@ -391,7 +390,7 @@ fn add_head<'a>(
     Ok(())
 }
 
-/// Adds the parameters of a definition where it begins. An `Err` says that memory ran out.
+/// Adds the parameters of a definition where it begins.
 fn add_parameters<'a>(
     list: &mut Vec<ReadOccurrence<'a>>,
     heads: &Names,
@@ -409,8 +408,7 @@ fn add_parameters<'a>(
     Ok(())
 }
 
-/// Adds the names of a definition that stands behind definitions of these names. An `Err` says that
-/// memory ran out.
+/// Adds the names of a definition that stands behind definitions of these names.
 fn add_definition<'a>(
     alloc: Global,
     list: &mut Vec<ReadOccurrence<'a>>,
@@ -436,8 +434,7 @@ fn add_definition<'a>(
     add_formula(list, &scope, 0, &definition.body)
 }
 
-/// Adds the names of a declaration that stands behind definitions of these names. An `Err` says that
-/// memory ran out.
+/// Adds the names of a declaration that stands behind definitions of these names.
 fn add_declaration<'a>(
     alloc: Global,
     list: &mut Vec<ReadOccurrence<'a>>,
@@ -467,8 +464,8 @@ fn add_declaration<'a>(
     }
 }
 
-/// Each name of a text that is no reserved word, in the order of the text, as what it occurs where these
-/// names are defined. An `Err` says that memory ran out.
+/// Each name of a text that is no reserved word, in the order of the text, as what it occurs where these names are
+/// defined.
 pub fn occurrences<'a>(
     alloc: Global,
     heads: &Names,

@@ -22,8 +22,7 @@ use ltl_formula::Ltl;
 use base_library::NoMemory;
 use std::alloc::Global;
 
-/// A place for the expansion of each of some formulas, with none made yet. An `Err` says that memory
-/// ran out.
+/// A place for the expansion of each of some formulas, with none made yet.
 pub fn no_expansions(
     alloc: Global,
     names: &[&Ltl],
@@ -93,10 +92,9 @@ fn products_of(
     Ok(so_far)
 }
 
-/// The choices of the set of the formulas with these numbers, over the numbers of a formula and of what
-/// steps from it may leave. The expansion of each member is kept for the next call. `Choices` comes
-/// exactly where a list that is formed on the way has more than 65,536 members before it is reduced;
-/// `NoMemory` says that memory ran out.
+/// The choices of the set of the formulas with these numbers, over the numbers of a formula and of what steps from it
+/// may leave. The expansion of each member is kept for the next call. `Choices` comes exactly where a list that is
+/// formed on the way has more than 65,536 members before it is reduced.
 pub fn choices_of_numbers(
     alloc: Global,
     names: &[&Ltl],

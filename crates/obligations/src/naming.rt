@@ -77,7 +77,7 @@ fn add_formula<'a>(formula: &'a Ltl, names: &mut Vec<&'a Ltl>) -> Result<(), NoM
     add_obligations(formula, names)
 }
 
-/// A formula and what steps from it may leave, in order, each once. An `Err` says that memory ran out.
+/// A formula and what steps from it may leave, in order, each once.
 pub fn names_of_formula(alloc: Global, formula: &Ltl) -> Result<Vec<&Ltl>, NoMemory>
     ensures { IfOk result (λ names. lent_trees names.items ≡ closure_of (ltl_tree formula.now ∷ [])) }
 {
@@ -86,8 +86,7 @@ pub fn names_of_formula(alloc: Global, formula: &Ltl) -> Result<Vec<&Ltl>, NoMem
     Ok(names)
 }
 
-/// Some formulas and what steps from them may leave, in order, each once. An `Err` says that memory
-/// ran out.
+/// Some formulas and what steps from them may leave, in order, each once.
 #[tactic(auto, using(crate::proofs::NamingLemmas::names_append))]
 pub fn names_of(alloc: Global, formulas: &[Ltl]) -> Result<Vec<&Ltl>, NoMemory>
     ensures { IfOk result (λ names. lent_trees names.items ≡ closure_of (map ltl_tree formulas.now)) }

@@ -51,7 +51,7 @@ impl Hash for NumberedChoice {
 }
 
 impl NumberedChoice {
-    /// An equal choice. An `Err` says that memory ran out.
+    /// An equal choice.
     pub fn copy(&self, alloc: Global) -> Result<NumberedChoice, NoMemory>
         ensures { IfOk result (λ copy. choice_key copy ≡ choice_key self.now) }
     {

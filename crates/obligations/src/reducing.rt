@@ -196,9 +196,8 @@ fn is_antichain(choices: &[NumberedChoice]) -> bool
 /// The most choices of a list that are compared with each other, and neither looked up nor put by their weights.
 const FEW: usize = 64;
 
-/// The choices of a list, equal ones once, that no different one lies within: by rising weight where
-/// the sets rise, as those of expansions do, and otherwise by comparing each pair. An `Err` says that
-/// memory ran out.
+/// The choices of a list, equal ones once, that no different one lies within: by rising weight where the sets rise,
+/// as those of expansions do, and otherwise by comparing each pair.
 pub(crate) fn reduced(
     alloc: Global,
     choices: Vec<NumberedChoice>,

@@ -37,7 +37,7 @@ impl Model for Set {
 }
 
 impl Set {
-    /// The set of this formula alone. An `Err` says that memory ran out.
+    /// The set of this formula alone.
     pub fn one(alloc: Global, formula: &Ltl) -> Result<Set, NoMemory>
         ensures { IfOk result (λ set. map ltl_tree set ≡ ltl_tree formula.now ∷ []) }
     {

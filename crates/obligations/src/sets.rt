@@ -37,7 +37,7 @@ fn insert_member(set: &mut Vec<u32>, member: u32) -> Result<(), NoMemory>
     Ok(())
 }
 
-/// The numbers of two sets. An `Err` says that memory ran out.
+/// The numbers of two sets.
 pub(crate) fn union_of(alloc: Global, left: &[u32], right: &[u32]) -> Result<Vec<u32>, NoMemory>
     ensures { IfOk result (λ both. both.items ≡ union nat_cmp left.now right.now) }
 {

@@ -101,9 +101,8 @@ fn step_with(alloc: Global, members: &[Ltl], names: &[&Ltl]) -> Result<Vec<Choic
     Ok(choices_of(alloc, names, numbered.as_slice())?)
 }
 
-/// The choices of a set: what one step asks of the letter for all members to hold, and what it leaves.
-/// `Choices` comes exactly where a list that is formed on the way has more than 65,536 members before
-/// it is reduced; `NoMemory` says that memory ran out.
+/// The choices of a set: what one step asks of the letter for all members to hold, and what it leaves. `Choices`
+/// comes exactly where a list that is formed on the way has more than 65,536 members before it is reduced.
 pub fn step(alloc: Global, set: &Set) -> Result<Vec<Choice>, StepError>
     ensures choices { IfOk result (λ made. choices (map ltl_tree set.now) ≡ Some (choice_trees made.items)) }
     ensures many { IfErr result (λ e. e ≡ StepError.Choices → choices (map ltl_tree set.now) ≡ None) }

@@ -28,9 +28,9 @@ use std::alloc::Global;
 use tsl_terms::{Formula, SignalLists, Spec, Window, signals, under, whole};
 use underapprox::to_letters;
 
-/// The first verdict on a program that applies, for annotations within a bound. At `Yes` the program
-/// realizes the specification. The limits of predicate terms and of bits come before every verdict, and
-/// those of the automaton before `NoAnnotation`; `NoMemory` says that memory ran out.
+/// The first verdict on a program that applies, for annotations within a bound. At `Yes` the program realizes the
+/// specification. The limits of predicate terms and of bits come before every verdict, and those of the automaton
+/// before `NoAnnotation`.
 pub fn accept(
     alloc: Global,
     spec: &Spec,
@@ -98,9 +98,8 @@ fn verdict_on_runs(
     }
 }
 
-/// The automaton that is asked for under windows: for controllers that of the negation of the whole formula,
-/// for environments that of the formula itself. An `Err` says which of its limits is passed, or that memory
-/// ran out.
+/// The automaton that is asked for under windows: for controllers that of the negation of the whole formula, for
+/// environments that of the formula itself. An `Err` says which of its limits is passed.
 pub fn automaton_for(
     alloc: Global,
     side: Side,

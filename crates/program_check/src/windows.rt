@@ -90,7 +90,7 @@ fn is_choice(space: &Space, update: &Listed) -> bool
     space.update_bit(update.signal, &update.term).is_some()
 }
 
-/// The first window that is not congruent, with the equality of the specification's names, if there is one. An `Err` says that memory ran out.
+/// The first window that is not congruent, with the equality of the specification's names, if there is one.
 pub(crate) fn unsound_window(
     alloc: Global,
     spec: &Spec,

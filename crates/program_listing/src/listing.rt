@@ -19,7 +19,7 @@ pub struct Name {
 
 /// A term or a test: a name alone, or a name with its arguments, which may be none.
 #[cycle(surfaces)]
-#[derive(Debug, Drop)]
+#[derive(Drop)]
 pub enum SurfaceTerm {
     /// A name alone.
     Bare(Name),
@@ -29,7 +29,6 @@ pub enum SurfaceTerm {
 
 /// A list of surface terms, in order.
 #[cycle(surfaces)]
-#[derive(Debug)]
 pub enum SurfaceTermList {
     /// No surface term.
     Empty,
@@ -50,7 +49,7 @@ impl Drop for SurfaceTermList {
 }
 
 impl SurfaceTermList {
-    /// The list of these surface terms, in their order. An `Err` says that memory ran out.
+    /// The list of these surface terms, in their order.
     #[tactic(auto, using(crate::proofs::SurfaceTermLists::surfaces_in_front, crate::proofs::SurfaceTermLists::surface_pushed))]
     pub fn from_vec(
         alloc: Global,
@@ -68,7 +67,7 @@ impl SurfaceTermList {
 }
 
 /// An update of an assignment.
-#[derive(Debug, Drop)]
+#[derive(Drop)]
 pub struct SpelledUpdate {
     /// What is updated.
     pub signal: Name,
@@ -77,7 +76,7 @@ pub struct SpelledUpdate {
 }
 
 /// An update that a window lists.
-#[derive(Debug, Drop)]
+#[derive(Drop)]
 pub struct SpelledListed {
     /// What is updated.
     pub signal: Name,
@@ -88,7 +87,7 @@ pub struct SpelledListed {
 }
 
 /// A test at a step of a window.
-#[derive(Debug, Drop)]
+#[derive(Drop)]
 pub struct SpelledPlaced {
     /// The test.
     pub test: SurfaceTerm,
@@ -97,7 +96,7 @@ pub struct SpelledPlaced {
 }
 
 /// The line of a window.
-#[derive(Debug, Drop)]
+#[derive(Drop)]
 pub struct SpelledWindow {
     /// The left test, or none where `true` stands in its place.
     pub left: Option<SpelledPlaced>,
@@ -122,7 +121,7 @@ impl SpelledWindow {
 }
 
 /// The line of a node, without its number.
-#[derive(Debug, Drop)]
+#[derive(Drop)]
 pub enum SpelledNode {
     /// `if TEST then A else B`
     Branch {
@@ -143,7 +142,7 @@ pub enum SpelledNode {
 }
 
 /// The lines of a program text, each kind in its order.
-#[derive(Debug, Drop)]
+#[derive(Drop)]
 pub struct ProgramSyntax {
     /// The names of the inputs.
     pub inputs: Vec<Name>,
@@ -176,7 +175,7 @@ impl ProgramSyntax {
 }
 
 /// Why a text has no listing.
-#[derive(Debug, Drop)]
+#[derive(Drop)]
 pub enum ListingError {
     /// This line, counted from 1, is the first at fault.
     Form(u32),

@@ -134,7 +134,7 @@ fn is_done(begun: &Begun) -> bool
     }
 }
 
-/// Adds a line that may stand next. An `Err` says that memory ran out.
+/// Adds a line that may stand next.
 fn insert(alloc: Global, begun: &mut Begun, line: Line) -> Result<(), NoMemory>
     requires { is_some (add (progress_of begun.old) (line_tree line)) ≡ true }
     ensures { OnOk result

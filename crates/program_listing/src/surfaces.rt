@@ -184,7 +184,7 @@ fn arguments(alloc: Global, levels_left: u32, left: Rest<'_>) -> Reading<'_, Vec
     Ok((found, rest))
 }
 
-/// A name with its arguments, which may be none. An `Err` says that memory ran out.
+/// A name with its arguments, which may be none.
 fn surface_of(
     alloc: Global,
     name: Name,

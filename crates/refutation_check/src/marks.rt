@@ -43,7 +43,7 @@ impl Model for Marks {
 }
 
 impl Marks {
-    /// No literal is true. An `Err` says that memory ran out.
+    /// No literal is true.
     pub fn new(alloc: Global, variables: u32) -> Result<Marks, NoMemory>
         ensures { IfOk result (λ marks. marks ≡ record { variables = variables; literals = [] }) }
     {
@@ -62,7 +62,7 @@ impl Marks {
         self.truths[place(literal)]
     }
 
-    /// Makes the literal true. An `Err` says that memory ran out.
+    /// Makes the literal true.
     pub fn make(&mut self, literal: Literal) -> Result<(), NoMemory>
         requires { literal.index < self.old.variables }
         ensures ok { OnOk result (self.new ≡ with_true self.old literal) }
@@ -73,7 +73,7 @@ impl Marks {
         Ok(())
     }
 
-    /// Makes each literal of the clause false. An `Err` says that memory ran out.
+    /// Makes each literal of the clause false.
     pub fn falsify(&mut self, clause: &Clause) -> Result<(), NoMemory>
         requires { IsOver self.old.variables clause.now }
         ensures variables { self.new.variables ≡ self.old.variables }

@@ -10,7 +10,7 @@ use refutation_check::{Log, Step};
 use base_library::NoMemory;
 use tsl_text::{put_bytes, put_number};
 
-/// Appends the text of a formula, the line `lrat` and the text of a log. An `Err` says that memory ran out.
+/// Appends the text of a formula, the line `lrat` and the text of a log.
 pub fn put_refutation(out: &mut Vec<u8>, cnf: &Cnf, log: &Log) -> Result<(), NoMemory>
     ensures clauses { OnOk result (All (IsClauseOver cnf.now.variables) cnf.now.clauses) }
     ensures steps { OnOk result (All (λ step. IsIncreasing step.clause) log.now.steps) }
@@ -21,7 +21,7 @@ pub fn put_refutation(out: &mut Vec<u8>, cnf: &Cnf, log: &Log) -> Result<(), NoM
     put_log(out, log)
 }
 
-/// Appends the text of a formula. An `Err` says that memory ran out.
+/// Appends the text of a formula.
 pub fn put_cnf(out: &mut Vec<u8>, cnf: &Cnf) -> Result<(), NoMemory>
     ensures clauses { OnOk result (All (IsClauseOver cnf.now.variables) cnf.now.clauses) }
     ensures text { OnOk result (out.new.items ≡ out.old.items ++ cnf_text cnf.now.variables cnf.now.clauses) }
@@ -34,7 +34,7 @@ pub fn put_cnf(out: &mut Vec<u8>, cnf: &Cnf) -> Result<(), NoMemory>
     Ok(())
 }
 
-/// Appends the text of a log. An `Err` says that memory ran out.
+/// Appends the text of a log.
 pub fn put_log(out: &mut Vec<u8>, log: &Log) -> Result<(), NoMemory>
     ensures steps { OnOk result (All (λ step. IsIncreasing step.clause) log.now.steps) }
     ensures text { OnOk result (out.new.items ≡ out.old.items ++ log_text log.now.steps) }
@@ -69,7 +69,7 @@ fn put_step(out: &mut Vec<u8>, step: &Step) -> Result<(), NoMemory>
     put_hints(out, step.hints.as_slice())
 }
 
-/// Appends the literals of a clause and a 0, with single spaces between them. An `Err` says that memory ran out.
+/// Appends the literals of a clause and a 0, with single spaces between them.
 pub fn put_clause(out: &mut Vec<u8>, literals: &[Literal]) -> Result<(), NoMemory>
     ensures { OnOk result (out.new.items ≡ out.old.items ++ clause_line literals.now) }
 {
@@ -91,7 +91,7 @@ fn put_hints(out: &mut Vec<u8>, hints: &[u64]) -> Result<(), NoMemory>
     put_bytes(out, b"0")
 }
 
-/// Appends the number of a literal. An `Err` says that memory ran out.
+/// Appends the number of a literal.
 pub fn put_literal(out: &mut Vec<u8>, literal: Literal) -> Result<(), NoMemory>
     ensures { OnOk result (out.new.items ≡ out.old.items ++ literal_word literal) }
 {

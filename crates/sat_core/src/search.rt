@@ -46,7 +46,7 @@ pub(crate) struct Search<'f> {
 }
 
 impl<'f> Search<'f> {
-    /// A search that begins, and may learn so many clauses. An `Err` says that memory ran out.
+    /// A search that begins, and may learn so many clauses.
     pub(crate) fn new(
         alloc: Global,
         cnf: &'f Cnf,
@@ -79,7 +79,7 @@ impl<'f> Search<'f> {
         })
     }
 
-    /// Searches until there is an answer. An `Err` says that memory ran out.
+    /// Searches until there is an answer.
     pub(crate) fn run(mut self, alloc: Global) -> Result<Answer, NoMemory>
         requires { IsSearching self }
         ensures { IfOk result (IsAnswerTo (task_of self.entry)) }
@@ -111,8 +111,8 @@ impl<'f> Search<'f> {
         self.proof_log.len() - u64::from(self.units.added)
     }
 
-    /// Propagates until no clause is unit or a clause is false: then it answers that clause's number. At level 0
-    /// what is true then gets clauses of one literal. An `Err` says that memory ran out.
+    /// Propagates until no clause is unit or a clause is false: then it answers that clause's number. At level 0 what
+    /// is true then gets clauses of one literal.
     fn propagate(&mut self, alloc: Global) -> Result<Option<u32>, NoMemory>
         requires { IsSearching self.old }
         ensures searching { OnOk result (IsSearching self.new) }
@@ -129,8 +129,7 @@ impl<'f> Search<'f> {
         Ok(self.trail.propagate()?)
     }
 
-    /// Decides the next variable. Where all are set it answers with what they are set to. An `Err` says that memory
-    /// ran out.
+    /// Decides the next variable. Where all are set it answers with what they are set to.
     fn decide(&mut self, alloc: Global) -> Result<Option<Assignment>, NoMemory>
         requires searching { IsSearching self.old }
         requires quiet { IsQuiet self.old.trail.clauses (literals_of self.old.trail.entries) }
@@ -147,7 +146,7 @@ impl<'f> Search<'f> {
         Ok(Some(assignment))
     }
 
-    /// Learns a clause from a conflict above level 0, where more may be learnt. An `Err` says that memory ran out.
+    /// Learns a clause from a conflict above level 0, where more may be learnt.
     fn learn(&mut self, alloc: Global, conflict: u32) -> Result<(), NoMemory>
         requires searching { IsSearching self.old }
         requires left { 0 < budget_left self.old }
@@ -172,7 +171,7 @@ impl<'f> Search<'f> {
         Ok(())
     }
 
-    /// Where clauses are to be left out, begins anew with a trail that lacks them. An `Err` says that memory ran out.
+    /// Where clauses are to be left out, begins anew with a trail that lacks them.
     fn reduce(&mut self, alloc: Global) -> Result<(), NoMemory>
         requires { IsSearching self.old }
         ensures searching { OnOk result (IsSearching self.new) }
@@ -195,7 +194,7 @@ impl<'f> Search<'f> {
         Ok(())
     }
 
-    /// The log of the steps that is closed by a conflict at level 0. An `Err` says that memory ran out.
+    /// The log of the steps that is closed by a conflict at level 0.
     fn refute(self, alloc: Global, conflict: u32) -> Result<Log, NoMemory>
         requires searching { IsSearching self }
         requires conflict { IsFalseAt self.trail conflict }
@@ -216,7 +215,7 @@ impl<'f> Search<'f> {
     }
 
     /// Ends a search that may learn no more: by a refutation where propagation at level 0 finds a clause that is
-    /// false. An `Err` says that memory ran out.
+    /// false.
     fn end(mut self, alloc: Global) -> Result<Answer, NoMemory>
         requires searching { IsSearching self }
         requires spent { budget_left self ≡ 0 }
@@ -257,7 +256,7 @@ fn most_units(cnf: &Cnf, budget: u64, reduces: bool) -> u32
     }
 }
 
-/// The clauses of the steps. An `Err` says that memory ran out.
+/// The clauses of the steps.
 fn learnt_clauses(alloc: Global, log: Log) -> Result<Sequence<Clause>, NoMemory>
     ensures { IfOk result (λ clauses. clauses ≡ clauses_of log.steps) }
 {

@@ -11,10 +11,9 @@ use clause_core::Cnf;
 use base_library::NoMemory;
 use std::alloc::Global;
 
-/// Whether some assignment meets all clauses, where so many clauses may be learnt, the empty one not
-/// counted. `Spent` comes only once that many are learnt. No clause has a literal and its negation,
-/// the budget is at least 1, and clauses and budget together are fewer than 2^32 - 1. An `Err` says
-/// that memory ran out.
+/// Whether some assignment meets all clauses, where so many clauses may be learnt, the empty one not counted. `Spent`
+/// comes only once that many are learnt. No clause has a literal and its negation, the budget is at least 1, and
+/// clauses and budget together are fewer than 2^32 - 1.
 pub fn solve(alloc: Global, cnf: &Cnf, budget: u64) -> Result<Answer, NoMemory>
     requires no_tautology { All (λ clause. has_pair clause ≡ false) cnf.now.clauses }
     requires positive { 0 < budget }
@@ -29,8 +28,8 @@ pub fn solve(alloc: Global, cnf: &Cnf, budget: u64) -> Result<Answer, NoMemory>
 }
 
 /// The answer of a search until so many clauses are learnt. Where the trail may be reduced, clauses that were not
-/// used of late are left out of it, and the search goes back one level in place of many; then the learnt clauses
-/// may be no trace. An `Err` says that memory ran out.
+/// used of late are left out of it, and the search goes back one level in place of many; then the learnt clauses may
+/// be no trace.
 fn answer_of(alloc: Global, cnf: &Cnf, budget: u64, reduces: bool) -> Result<Answer, NoMemory>
     requires no_tautology { All (λ clause. has_pair clause ≡ false) cnf.now.clauses }
     requires few { length cnf.now.clauses + budget < 2 ^ 32 - 1 }

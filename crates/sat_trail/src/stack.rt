@@ -41,8 +41,7 @@ impl<'f> Model for Stack<'f> {
 }
 
 impl<'f> Stack<'f> {
-    /// Over the clauses of a formula, and learnt ones behind them: at level 0, with no literal set. An `Err`
-    /// says that memory ran out.
+    /// Over the clauses of a formula, and learnt ones behind them: at level 0, with no literal set.
     pub fn new(alloc: Global, cnf: &'f Cnf, learnt: Vec<Clause>) -> Result<Stack<'f>, NoMemory>
         requires few { length cnf.now.clauses + length learnt.items < 2 ^ 32 }
         requires over { All (IsOver cnf.now.variables) learnt.items }
@@ -62,7 +61,7 @@ impl<'f> Stack<'f> {
         })
     }
 
-    /// Opens the next level with this literal. An `Err` says that memory ran out.
+    /// Opens the next level with this literal.
     pub fn decide(&mut self, literal: Literal) -> Result<(), NoMemory>
         requires usable { self.old.broken ≡ false }
         requires over { literal.index < self.old.variables }
@@ -75,7 +74,7 @@ impl<'f> Stack<'f> {
         self.set(literal, level, None)
     }
 
-    /// Adds a clause at the end, and answers its number. An `Err` says that memory ran out.
+    /// Adds a clause at the end, and answers its number.
     pub fn learn(&mut self, clause: Clause) -> Result<u32, NoMemory>
         requires { MayLearn self.old clause }
         ensures ok { OnOk result (self.new ≡ with_clause self.old clause) }
@@ -196,7 +195,7 @@ impl<'f> Stack<'f> {
         self.clauses.len()
     }
 
-    /// Sets a literal at the next place. An `Err` says that memory ran out.
+    /// Sets a literal at the next place.
     pub fn set(&mut self, literal: Literal, level: u32, reason: Option<u32>) -> Result<(), NoMemory>
         requires { MayStand self.old.variables self.old.clauses self.old.entries (entry_with literal level reason) }
         ensures ok { OnOk result (self.new ≡ extended self.old (entry_with literal level reason)) }

@@ -52,8 +52,8 @@ impl<'f> Trail<'f> {
         }
     }
 
-    /// The trail of a formula and learnt clauses behind its own: at level 0, with no literal set. No clause has
-    /// a literal and its negation. An `Err` says that memory ran out.
+    /// The trail of a formula and learnt clauses behind its own: at level 0, with no literal set. No clause has a
+    /// literal and its negation.
     pub fn with_learnt(
         alloc: Global,
         cnf: &'f Cnf,
@@ -71,7 +71,7 @@ impl<'f> Trail<'f> {
         Ok(Trail { stack, watches })
     }
 
-    /// Opens the next level with this literal. An `Err` says that memory ran out.
+    /// Opens the next level with this literal.
     pub fn decide(&mut self, literal: Literal) -> Result<(), NoMemory>
         requires usable { self.old.broken ≡ false }
         requires over { literal.index < self.old.variables }
@@ -83,9 +83,8 @@ impl<'f> Trail<'f> {
         self.stack.decide(literal)
     }
 
-    /// Sets the one unassigned literal of each clause whose other literals are all false, until there
-    /// is none or a clause is false: then it answers the number of such a clause. An `Err` says that
-    /// memory ran out.
+    /// Sets the one unassigned literal of each clause whose other literals are all false, until there is none or a
+    /// clause is false: then it answers the number of such a clause.
     pub fn propagate(&mut self) -> Result<Option<u32>, NoMemory>
         requires { self.old.broken ≡ false }
         ensures ok { OnOk result (Propagates self.old self.new) }
@@ -102,7 +101,7 @@ impl<'f> Trail<'f> {
         }
     }
 
-    /// Adds a clause at the end, and answers its number. An `Err` says that memory ran out.
+    /// Adds a clause at the end, and answers its number.
     pub fn learn(&mut self, clause: Clause) -> Result<u32, NoMemory>
         requires usable { self.old.broken ≡ false }
         requires over { IsOver self.old.variables clause }

@@ -57,7 +57,7 @@ impl<'f> TrailClauses<'f> {
         }
     }
 
-    /// Puts a learnt clause at the end. An `Err` says that memory ran out.
+    /// Puts a learnt clause at the end.
     pub fn push(&mut self, clause: Clause) -> Result<(), NoMemory>
         requires { length self.old + 1 < 2 ^ 32 }
         ensures { self.new ≡ cond (is_ok result) (self.old ++ clause ∷ []) self.old }

@@ -46,7 +46,7 @@ impl Model for WatchList {
 }
 
 impl WatchList {
-    /// No clause watches the literal; there is room for so many. An `Err` says that memory ran out.
+    /// No clause watches the literal; there is room for so many.
     fn with_room(alloc: Global, count: usize) -> Result<WatchList, NoMemory>
         ensures { IfOk result (λ list. list ≡ []) }
     {
@@ -69,7 +69,7 @@ impl WatchList {
         self.watches[index]
     }
 
-    /// Adds a watch at the end. An `Err` says that memory ran out.
+    /// Adds a watch at the end.
     fn push(&mut self, watch: Watch) -> Result<(), NoMemory>
         ensures { OnOk result (self.new ≡ self.old ++ watch ∷ []) }
     {
@@ -221,7 +221,7 @@ pub struct Watches {
 }
 
 impl Watches {
-    /// No clause is taken in, and no entry visited; there is room for what these clauses watch first. An `Err` says that memory ran out.
+    /// No clause is taken in, and no entry visited; there is room for what these clauses watch first.
     pub fn new(alloc: Global, variables: u32, clauses: &ClauseList) -> Result<Watches, NoMemory>
         requires { variables < 2 ^ 31 }
         ensures { IfOk result (λ watches. (t : TrailState) → t.variables ≡ variables → AreWatched t watches) }
@@ -257,7 +257,6 @@ impl Watches {
     }
 
     /// Propagates until no clause is unit or a clause is false: then it answers that clause's number.
-    /// An `Err` says that memory ran out.
     pub fn propagate(&mut self, stack: &mut Stack<'_>) -> Result<Option<u32>, NoMemory>
         requires ready { MayPropagate stack.old self.old }
         ensures grows { OnOk result (PropagatesWatched stack.old stack.new self.new) }
@@ -279,7 +278,7 @@ impl Watches {
         Ok(None)
     }
 
-    /// Takes clauses in until one waits, and answers whether one does. An `Err` says that memory ran out.
+    /// Takes clauses in until one waits, and answers whether one does.
     fn take_in(&mut self, stack: &Stack<'_>) -> Result<bool, NoMemory>
         requires ready { MayPropagate stack.now self.old }
         ensures watched { OnOk result (AreWatched stack.now self.new) }
@@ -291,8 +290,7 @@ impl Watches {
         Ok(self.held < self.asides.len())
     }
 
-    /// Takes the next clause in: it watches two literals that are not false, or else it waits. An `Err` says
-    /// that memory ran out.
+    /// Takes the next clause in: it watches two literals that are not false, or else it waits.
     fn take_next(&mut self, stack: &Stack<'_>) -> Result<(), NoMemory>
         requires ready { MayPropagate stack.now self.old }
         requires more { length self.old.pairs.items < length stack.now.clauses }
@@ -323,7 +321,7 @@ impl Watches {
         }
     }
 
-    /// Looks at a clause that waits, and answers its number if it is false. An `Err` says that memory ran out.
+    /// Looks at a clause that waits, and answers its number if it is false.
     fn look(&mut self, stack: &mut Stack<'_>) -> Result<Option<u32>, NoMemory>
         requires ready { MayPropagate stack.old self.old }
         requires some { self.old.held < length self.old.asides.items }
@@ -356,8 +354,7 @@ impl Watches {
         }
     }
 
-    /// A clause that waits does so no more: it watches these two literals, which are not false. It answers
-    /// none. An `Err` says that memory ran out.
+    /// A clause that waits does so no more: it watches these two literals, which are not false. It answers none.
     fn open(
         &mut self,
         stack: &Stack<'_>,
@@ -377,7 +374,7 @@ impl Watches {
         Ok(None)
     }
 
-    /// A clause that waits watches these two of its literals. An `Err` says that memory ran out.
+    /// A clause that waits watches these two of its literals.
     fn watch_both(
         &mut self,
         stack: &Stack<'_>,
@@ -404,8 +401,8 @@ impl Watches {
         Ok(())
     }
 
-    /// A clause that waits and whose literals but this one are false watches it and the one that was made false
-    /// last, if there is one. An `Err` says that memory ran out.
+    /// A clause that waits and whose literals but this one are false watches it and the one that was made false last,
+    /// if there is one.
     fn watch_last(
         &mut self,
         stack: &Stack<'_>,
@@ -435,8 +432,8 @@ impl Watches {
         }
     }
 
-    /// Sets the literal of a clause that waits and whose other literals are false, and sets the clause aside.
-    /// It answers none. An `Err` says that memory ran out.
+    /// Sets the literal of a clause that waits and whose other literals are false, and sets the clause aside. It
+    /// answers none.
     fn force_aside(
         &mut self,
         stack: &mut Stack<'_>,
@@ -484,7 +481,7 @@ impl Watches {
         self.low = lowered(self.low, place, stack.level_at(place) < stack.level());
     }
 
-    /// A clause watches two literals. An `Err` says that memory ran out.
+    /// A clause watches two literals.
     fn attach(&mut self, number: u32, first: Literal, second: Literal) -> Result<(), NoMemory>
         requires first { code_of first < length self.old.lists.items }
         requires second { code_of second < length self.old.lists.items }
@@ -495,7 +492,7 @@ impl Watches {
         self.add_watch(second, number, first)
     }
 
-    /// Adds a watch of a clause to a literal's list. An `Err` says that memory ran out.
+    /// Adds a watch of a clause to a literal's list.
     fn add_watch(&mut self, literal: Literal, clause: u32, blocker: Literal) -> Result<(), NoMemory>
         requires { code_of literal < length self.old.lists.items }
         ensures lists { OnOk result (AddsWatch self.old.lists.items (code_of literal) (record { clause = clause; blocker = blocker }) self.new.lists.items) }
@@ -522,9 +519,8 @@ impl Watches {
         self.lists[literal.code()].take_out(index);
     }
 
-    /// Visits the clauses that watch the literal that the next entry makes false, and answers the
-    /// number of one that is false; the entry is then still to be visited. An `Err` says that memory
-    /// ran out.
+    /// Visits the clauses that watch the literal that the next entry makes false, and answers the number of one that
+    /// is false; the entry is then still to be visited.
     fn visit_entry(&mut self, stack: &mut Stack<'_>) -> Result<Option<u32>, NoMemory>
         requires ready { MayPropagate stack.old self.old }
         requires more { self.old.head < length stack.old.entries }
@@ -548,8 +544,7 @@ impl Watches {
         Ok(None)
     }
 
-    /// Visits the clause of a watch whose literal is false, and answers its number if it is false. An
-    /// `Err` says that memory ran out.
+    /// Visits the clause of a watch whose literal is false, and answers its number if it is false.
     fn visit(
         &mut self,
         stack: &mut Stack<'_>,
@@ -585,8 +580,7 @@ impl Watches {
     }
 }
 
-/// How many of these clauses have a literal among their first two, for each literal by its code. An `Err` says that
-/// memory ran out.
+/// How many of these clauses have a literal among their first two, for each literal by its code.
 fn watch_counts(alloc: Global, count: u32, clauses: &ClauseList) -> Result<Vec<u32>, NoMemory> {
     let mut counts = vec![in alloc; 0; count as usize]?;
     for place in 0..clauses.len() {
@@ -668,8 +662,7 @@ fn start_in(length: usize, literal: Literal) -> usize {
     (u64::from(spread).wrapping_mul(length as u64) >> 32) as usize
 }
 
-/// Sets the literal of a clause whose others are false, or answers the clause's number if that one is
-/// false too. An `Err` says that memory ran out.
+/// Sets the literal of a clause whose others are false, or answers the clause's number if that one is false too.
 fn force_or_fail(
     stack: &mut Stack<'_>,
     number: u32,
@@ -689,8 +682,7 @@ fn force_or_fail(
     Ok(None)
 }
 
-/// Sets the literal of a clause whose others are false, unless it is true. An `Err` says that memory
-/// ran out.
+/// Sets the literal of a clause whose others are false, unless it is true.
 fn force(stack: &mut Stack<'_>, number: u32, literal: Literal) -> Result<(), NoMemory>
     requires usable { stack.old.broken ≡ false }
     requires sound { IsSound stack.old }

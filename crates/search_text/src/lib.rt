@@ -1,10 +1,9 @@
 //! The texts of a search that finds no controller, or whose budget is spent.
 //!
-//! `none_text` gives the text which says that no controller was found and why the search ended, and
-//! `spent_text` the one which says that the budget of a search was spent, both with the rounds that
-//! were made: at Ok exactly the bytes that the definitions of the same names give. An `Err` says
-//! that memory ran out. The conditions are that the names hold each number of the terms, and that
-//! environments fit the space.
+//! `none_text` gives the text which says that no controller was found and why the search ended, and `spent_text` the
+//! one which says that the budget of a search was spent, both with the rounds that were made: at Ok exactly the bytes
+//! that the definitions of the same names give. The conditions are that the names hold each number of the terms, and
+//! that environments fit the space.
 #![tactic(auto)]
 
 ghost use Rattle.std.specs.Prelude.{◌≡◌, ◌<◌, [], ◌∷◌, ◌++◌, map, flat_map, codes, IsTrue, IfOk, OnOk};
@@ -43,8 +42,8 @@ pub enum ReasonText<'a> {
     Genuine(&'a Environment),
 }
 
-/// The text which says that no controller with so many states has an annotation within the bound,
-/// with the rounds that were made and why no more were. An `Err` says that memory ran out.
+/// The text which says that no controller with so many states has an annotation within the bound, with the rounds
+/// that were made and why no more were.
 ///
 /// The names hold each number of the space's terms and of the windows, and each environment fits
 /// the space.
@@ -109,9 +108,8 @@ fn put_genuine(
     put_environment(out, names, space, environment)
 }
 
-/// The text which says that the budget of a search was spent: whose machine was searched for, the
-/// states and the bound that were asked for, the rounds that were made before, the automaton, and
-/// the clauses that were learnt. An `Err` says that memory ran out.
+/// The text which says that the budget of a search was spent: whose machine was searched for, the states and the
+/// bound that were asked for, the rounds that were made before, the automaton, and the clauses that were learnt.
 ///
 /// The names hold each number of the space's terms and of the windows, and each environment fits
 /// the space.

@@ -46,7 +46,7 @@ impl Refusal {
         }
     }
 
-    /// The line that says it, with its line feed. An `Err` says that memory ran out.
+    /// The line that says it, with its line feed.
     fn text(self, alloc: Global) -> Result<Vec<u8>, NoMemory>
         ensures { IfOk result (λ text. text.items ≡ refusal_words self ++ codes "\n") }
     {

@@ -330,9 +330,9 @@ fn declaration<'a, 'b>(
     Ok(Some(read))
 }
 
-/// The sections and definitions of a text, in order. It answers an `Ok` only where the text is these
-/// and nothing else. An `Err` has the first fault of the form or of a level above `levels_left`, by how many
-/// terminals are left from it on, or says that memory ran out.
+/// The sections and definitions of a text, in order. It answers an `Ok` only where the text is these and nothing
+/// else. An `Err` has the first fault of the form or of a level above `levels_left`, by how many terminals are left
+/// from it on.
 #[tactic(auto, unfolding(crate::specs::Reading::declarations), using(crate::proofs::ReadLoops::members_read, crate::proofs::ReadLoops::declaration_shorter, crate::proofs::ExactDeclarations::declaration_shrinks))]
 pub fn declarations<'a, 'b>(
     alloc: Global,

@@ -94,7 +94,7 @@ fn name_terminal<'a>(name: &'a [u8]) -> Terminal<'a>
     }
 }
 
-/// The terminals of a text's tokens. An `Err` says that memory ran out.
+/// The terminals of a text's tokens.
 pub fn terminals<'a>(
     alloc: Global,
     text: &'a [u8],

@@ -183,7 +183,7 @@ fn opened<'a, 'b>(
     }
 }
 
-/// The arguments, with the name that stands last among them. An `Err` says that memory ran out.
+/// The arguments, with the name that stands last among them.
 fn complete<'a>(alloc: Global, arguments: Arguments<'a>) -> Result<Vec<ReadTerm<'a>>, NoMemory>
     ensures { IfOk result (λ terms.
         map term_syntax terms.items ≡ complete (arguments_view arguments.entry)) }
@@ -200,7 +200,7 @@ fn complete<'a>(alloc: Global, arguments: Arguments<'a>) -> Result<Vec<ReadTerm<
     }
 }
 
-/// A further argument that begins with a name. An `Err` says that memory ran out.
+/// A further argument that begins with a name.
 fn with_name<'a>(
     alloc: Global,
     arguments: Arguments<'a>,
@@ -213,7 +213,7 @@ fn with_name<'a>(
     Ok(Arguments::NameLast(terms, name))
 }
 
-/// A further argument in brackets. An `Err` says that memory ran out.
+/// A further argument in brackets.
 fn with_term<'a>(
     alloc: Global,
     arguments: Arguments<'a>,
@@ -227,8 +227,7 @@ fn with_term<'a>(
     Ok(Arguments::TermLast(terms))
 }
 
-/// Brackets after a name: a further argument, or `()`, which is the name's. An `Err` says that memory
-/// ran out.
+/// Brackets after a name: a further argument, or `()`, which is the name's.
 fn with_brackets<'a>(
     alloc: Global,
     found: Option<ReadTerm<'a>>,
@@ -244,7 +243,7 @@ fn with_brackets<'a>(
     }
 }
 
-/// `()` after a name. An `Err` says that memory ran out.
+/// `()` after a name.
 fn without_term<'a>(arguments: Arguments<'a>) -> Result<Arguments<'a>, NoMemory>
     ensures { IfOk result (λ next.
         arguments_view next ≡ with_brackets None (arguments_view arguments.entry)) }
@@ -399,7 +398,7 @@ pub(crate) fn after_name<'a, 'b>(
     Ok((terms, left.terminals))
 }
 
-/// The arguments, where there are any. An `Err` says that memory ran out.
+/// The arguments, where there are any.
 fn arguments_of<'a>(
     alloc: Global,
     arguments: Arguments<'a>,

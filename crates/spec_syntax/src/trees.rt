@@ -44,7 +44,7 @@ impl<'a> Drop for ReadTerms<'a> {
 }
 
 impl<'a> ReadTerms<'a> {
-    /// The list of these terms, in their order. An `Err` says that memory ran out.
+    /// The list of these terms, in their order.
     #[tactic(auto, using(crate::proofs::TreeLemmas::terms_front_none, crate::proofs::TreeLemmas::with_front_push))]
     pub fn from_vec(alloc: Global, mut terms: Vec<ReadTerm<'a>>) -> Result<ReadTerms<'a>, NoMemory>
         ensures { IfOk result (λ list.
@@ -104,7 +104,7 @@ impl<'a> Drop for ReadFormulas<'a> {
 }
 
 impl<'a> ReadFormulas<'a> {
-    /// The list of these formulas, in their order. An `Err` says that memory ran out.
+    /// The list of these formulas, in their order.
     #[tactic(auto, using(crate::proofs::TreeLemmas::formulas_front_none, crate::proofs::TreeLemmas::with_front_push))]
     pub fn from_vec(
         alloc: Global,

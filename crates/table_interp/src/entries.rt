@@ -217,7 +217,7 @@ fn check_entries(given: &Located, cells: &[u32], ids: &[u32]) -> Result<(), Tabl
     Ok(())
 }
 
-/// Numbers below 2^32 as such. An `Err` says that memory ran out.
+/// Numbers below 2^32 as such.
 pub(crate) fn narrow(alloc: Global, numbers: &[u64]) -> Result<Vec<u32>, NoMemory>
     requires { All (λ n. n < 2 ^ 32) numbers.now }
     ensures { IfOk result (λ all. all.items ≡ numbers.now) }
@@ -229,8 +229,7 @@ pub(crate) fn narrow(alloc: Global, numbers: &[u64]) -> Result<Vec<u32>, NoMemor
     Ok(all)
 }
 
-/// The table of a function or a predicate; a signal and equality have an empty one. An `Err` says that
-/// memory ran out.
+/// The table of a function or a predicate; a signal and equality have an empty one.
 fn table_of(
     alloc: Global,
     given: &Located,
@@ -252,7 +251,7 @@ fn table_of(
     }
 }
 
-/// The tables of all names. An `Err` says that memory ran out.
+/// The tables of all names.
 fn tables_of(alloc: Global, given: &Located) -> Result<Vec<Sequence<u32>>, NoMemory>
     requires located { IsLocated given.now }
     requires small { (id : ℕ) → HasSmallTable given.now.names.now (located_tables given.now).entries id }
@@ -281,7 +280,7 @@ fn value_of(given: &Located, cell: u32) -> u32
     }
 }
 
-/// The value of each cell at first. An `Err` says that memory ran out.
+/// The value of each cell at first.
 fn initial_of(alloc: Global, given: &Located, cells: &[u32]) -> Result<Vec<u32>, NoMemory>
     requires located { IsLocated given.now }
     requires within { All (λ s. s < length given.now.names.now) cells.now }

@@ -146,7 +146,7 @@ fn check_values(
     Ok(())
 }
 
-/// The place of the column of each input. An `Err` says that memory ran out.
+/// The place of the column of each input.
 fn order_of(alloc: Global, places: &[Option<usize>], inputs: &[u32]) -> Result<Vec<usize>, NoMemory>
     requires { HavePlaces places.now inputs.now }
     ensures { IfOk result (λ order. AreOrdered places.now inputs.now order.items) }
@@ -170,7 +170,7 @@ fn value_at(row: &[u64], place: usize) -> Option<u32>
     }
 }
 
-/// A row in the order of the inputs. An `Err` says that memory ran out.
+/// A row in the order of the inputs.
 fn ordered(alloc: Global, order: &[usize], row: &[u64]) -> Result<Vec<u32>, NoMemory>
     requires { All (λ v. v < 2 ^ 32) row.now }
     ensures { IfOk result (λ values. map (λ v. Some v) values.items ≡ map (slice_get row.now) order.now) }
@@ -185,7 +185,7 @@ fn ordered(alloc: Global, order: &[usize], row: &[u64]) -> Result<Vec<u32>, NoMe
     Ok(values)
 }
 
-/// Rows in the order of the inputs. An `Err` says that memory ran out.
+/// Rows in the order of the inputs.
 fn all_ordered(
     alloc: Global,
     order: &[usize],

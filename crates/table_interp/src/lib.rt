@@ -235,7 +235,7 @@ impl From<EntryFault> for InputError {
 
 /// The interpretation that a text spells for the names, with a value at first for each of the cells.
 ///
-/// An `Err` has the cause why the text spells none, or says that memory ran out.
+/// An `Err` has the cause why the text spells none.
 pub fn read_tables(
     alloc: Global,
     text: &[u8],
@@ -261,7 +261,7 @@ pub fn read_tables(
 
 /// The rows that a text spells for the inputs, each in the order of the inputs.
 ///
-/// An `Err` has the cause why the text spells none, or says that memory ran out.
+/// An `Err` has the cause why the text spells none.
 pub fn read_inputs(
     alloc: Global,
     text: &[u8],

@@ -49,8 +49,7 @@ impl Tables {
         self.domain
     }
 
-    /// The interpretation with these tables, these values of the cells at first, and equality of this number. An
-    /// `Err` says that memory ran out.
+    /// The interpretation with these tables, these values of the cells at first, and equality of this number.
     pub(crate) fn from_parts(
         alloc: Global,
         domain: u32,
@@ -90,7 +89,7 @@ impl Tables {
     }
 }
 
-/// Each cell with its value. An `Err` says that memory ran out.
+/// Each cell with its value.
 fn values_by_cell(
     alloc: Global,
     cells: &[u32],

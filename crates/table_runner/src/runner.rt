@@ -23,7 +23,7 @@ pub struct Runner<'a, J: Judge> {
 }
 
 impl<'a, J: Judge> Runner<'a, J> {
-    /// A runner that stands at step 0. An `Err` says that memory ran out.
+    /// A runner that stands at step 0.
     pub fn new(
         alloc: Global,
         judge: &'a J,

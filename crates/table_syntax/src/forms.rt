@@ -51,7 +51,7 @@ fn start_of(text: &[u8], tokens: &[Token], left: usize) -> u32
 
 /// What a text of tables derives from.
 ///
-/// An `Err` has the first fault of the text, or says that memory ran out.
+/// An `Err` has the first fault of the text.
 pub fn tables_of<'a>(alloc: Global, text: &'a [u8]) -> Result<TablesText<'a>, TextFault>
     requires { length text.now < 2 ^ 32 - 1 }
     ensures read { IfOk result (λ given. IsRead IsTables text.now (tables_view given)) }
@@ -88,7 +88,7 @@ fn tables_in<'a>(
 
 /// What a text of words derives from.
 ///
-/// An `Err` has the first fault of the text, or says that memory ran out.
+/// An `Err` has the first fault of the text.
 pub fn words_of<'a>(alloc: Global, text: &'a [u8]) -> Result<WordsText<'a>, TextFault>
     requires { length text.now < 2 ^ 32 - 1 }
     ensures read { IfOk result (λ given. IsRead IsWords text.now (words_view given)) }
@@ -121,7 +121,7 @@ fn words_in<'a>(alloc: Global, text: &'a [u8], tokens: &[Token]) -> Result<Words
 
 /// What a text of inputs derives from.
 ///
-/// An `Err` has the first fault of the text, or says that memory ran out.
+/// An `Err` has the first fault of the text.
 pub fn inputs_of<'a>(alloc: Global, text: &'a [u8]) -> Result<InputsText<'a>, TextFault>
     requires { length text.now < 2 ^ 32 - 1 }
     ensures read { IfOk result (λ given. IsRead IsInputs text.now (inputs_view given)) }

@@ -267,7 +267,7 @@ fn first_number<'a, 'b>(xs: &'b [TextToken<'a>]) -> Option<(u64, &'b [TextToken<
     }
 }
 
-/// The numbers at the front. An `Err` says that memory ran out.
+/// The numbers at the front.
 #[tactic(auto, unfolding(crate::specs::internal::Reading::numbers))]
 fn numbers<'a, 'b>(
     alloc: Global,
@@ -417,7 +417,7 @@ fn columns<'a, 'b>(alloc: Global, xs: &'b [TextToken<'a>]) -> Answer<'a, 'b, Vec
     Ok((columns, left.terminals))
 }
 
-/// The rows at the front. An `Err` says that memory ran out.
+/// The rows at the front.
 #[tactic(auto, unfolding(crate::specs::internal::Reading::rows))]
 fn rows<'a, 'b>(
     alloc: Global,

@@ -74,7 +74,7 @@ fn text_token_at<'a>(text: &'a [u8], token: &Token) -> TextToken<'a>
     }
 }
 
-/// The terminals of a text's tokens. An `Err` says that memory ran out.
+/// The terminals of a text's tokens.
 pub(crate) fn text_tokens<'a>(
     alloc: Global,
     text: &'a [u8],

@@ -70,7 +70,7 @@ fn pairs_of_labels(
     Ok(pairs)
 }
 
-/// The class of each label, where equalities are listed. An `Err` says that memory ran out.
+/// The class of each label, where equalities are listed.
 pub(crate) fn classes_of_labels(
     alloc: Global,
     shapes: &mut IndexSet<Shape>,
@@ -128,8 +128,7 @@ fn label_rows(
 }
 
 /// The labels of terms at the steps from 0 to a last one. Two labels are equal exactly where the listed equalities put what
-/// the two terms unfold to at their steps into one class, the cells being the signals that are updated. An `Err` says that
-/// memory ran out.
+/// the two terms unfold to at their steps into one class, the cells being the signals that are updated.
 pub fn classes_along(
     alloc: Global,
     terms: &[Term],

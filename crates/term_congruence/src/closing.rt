@@ -68,7 +68,7 @@ fn join(classes: &mut [u32], from: u32, to: u32)
 }
 
 /// Joins classes until shapes that are the same by classes are in one class. Only labels are joined that are equivalent in
-/// each allowed equivalence in which those were that were in one class before. An `Err` says that memory ran out.
+/// each allowed equivalence in which those were that were in one class before.
 fn close(alloc: Global, shapes: &[Shape], classes: &mut [u32]) -> Result<(), NoMemory>
     requires { AreClasses (shape_trees shapes.now) classes.old }
     ensures joined { StayJoined classes.old classes.new }
@@ -108,7 +108,7 @@ fn join_pairs(classes: &mut [u32], pairs: &[LabelPair])
     }
 }
 
-/// Joins classes of one label each to the smallest ones with these pairs. An `Err` says that memory ran out.
+/// Joins classes of one label each to the smallest ones with these pairs.
 fn settle(
     alloc: Global,
     shapes: &[Shape],
@@ -125,7 +125,7 @@ fn settle(
 }
 
 /// The smallest classes of labels in which each of these pairs is together, and in which two applications of one function are
-/// together where their arguments are pairwise. An `Err` says that memory ran out.
+/// together where their arguments are pairwise.
 pub(crate) fn classes_of(
     alloc: Global,
     shapes: &[Shape],

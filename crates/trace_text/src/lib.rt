@@ -1,7 +1,7 @@
 //! The text of a run that closes, and of the verdicts on it.
 //!
-//! `trace_text` gives, at Ok, exactly the bytes that the definition of the same name gives. The one
-//! condition is that the names hold each number. An `Err` says that memory ran out.
+//! `trace_text` gives, at Ok, exactly the bytes that the definition of the same name gives. The one condition is that
+//! the names hold each number.
 #![tactic(auto)]
 
 ghost use Rattle.std.specs.Prelude.{◌≡◌, ℕ, ◌++◌, map, codes, decimal, IsTrue, IfOk, OnOk};
@@ -19,9 +19,8 @@ use tsl_meaning::{LoopRun, Position};
 use tsl_terms::Names;
 use tsl_text::{put_bytes, put_number};
 
-/// The text of a run: a line for each position, the line of its loop, and a line for each verdict.
-/// The verdicts are those on the windows in order, and where there is a formula the last one is
-/// that on the formula. An `Err` says that memory ran out.
+/// The text of a run: a line for each position, the line of its loop, and a line for each verdict. The verdicts are
+/// those on the windows in order, and where there is a formula the last one is that on the formula.
 ///
 /// The names hold each signal of the run and each number of the terms that it assigns.
 pub fn trace_text(

@@ -21,10 +21,9 @@ use base_library::NoMemory;
 use std::alloc::Global;
 use tsl_terms::{Formula, FormulaList, FormulaParts, ManyOperator};
 
-/// Whether a formula holds at the first position of a run. Each probe has a truth at each position. An
-/// update holds where its signal is assigned that very term, and not merely one of equal value. It
-/// takes as many steps as the formula has atoms, times the positions, and for each operator as many as
-/// there are words of 64 positions. An `Err` says that memory ran out.
+/// Whether a formula holds at the first position of a run. Each probe has a truth at each position. An update holds
+/// where its signal is assigned that very term, and not merely one of equal value. It takes as many steps as the
+/// formula has atoms, times the positions, and for each operator as many as there are words of 64 positions.
 pub fn judge<J: Judge>(
     alloc: Global,
     judge: &J,

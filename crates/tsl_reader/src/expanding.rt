@@ -51,7 +51,7 @@ fn nodes_of_sections(heads: &Names, sizes: &[Size], sections: &[ReadSection]) ->
     nodes
 }
 
-/// The expansion of a formula, without brackets. An `Err` says that memory ran out.
+/// The expansion of a formula, without brackets.
 #[tactic(auto, using(crate::proofs::BareExpansions::as_many))]
 fn bare_expansion<'a>(
     alloc: Global,
@@ -66,7 +66,7 @@ fn bare_expansion<'a>(
     expansion(alloc, heads, definitions, heads.count(), formula)
 }
 
-/// The expansions of formulas. An `Err` says that memory ran out.
+/// The expansions of formulas.
 fn expanded_formulas<'a>(
     alloc: Global,
     heads: &Names,
@@ -84,7 +84,7 @@ fn expanded_formulas<'a>(
     Ok(list)
 }
 
-/// A section with the expansions of its formulas. An `Err` says that memory ran out.
+/// A section with the expansions of its formulas.
 fn expanded_section<'a>(
     alloc: Global,
     heads: &Names,
@@ -102,7 +102,7 @@ fn expanded_section<'a>(
     })
 }
 
-/// The sections with the expansions of their formulas. An `Err` says that memory ran out.
+/// The sections with the expansions of their formulas.
 fn expanded_sections<'a>(
     alloc: Global,
     heads: &Names,

@@ -120,7 +120,7 @@ impl<T: Drop> From<AllocFailed<T>> for SpecError {
 /// The specification that a text spells. Its names are distinct, each usable or `?`, and its formulas
 /// fit them.
 ///
-/// An `Err` has the cause why it spells none, or says that memory ran out.
+/// An `Err` has the cause why it spells none.
 pub fn read_spec(alloc: Global, text: &[u8]) -> Result<Spec, SpecError>
     requires { length text.now < 2 ^ 32 - 1 }
     ensures ok { IfOk result (λ spec. Spells text.now (spec_tree spec)) }

@@ -10,8 +10,7 @@ use base_library::NoMemory;
 use std::alloc::Global;
 use tsl_terms::{NameKind, NameUse};
 
-/// The names that get numbers by uses: after each signal that is tested comes `?`. An `Err` says that
-/// memory ran out.
+/// The names that get numbers by uses: after each signal that is tested comes `?`.
 pub(crate) fn numbered_names<'a>(
     alloc: Global,
     uses: &[ReadUse<'a>],

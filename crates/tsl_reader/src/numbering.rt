@@ -29,7 +29,7 @@ fn number_of(names: &Names, text: &[u8]) -> u32
     names.find(text).unwrap()
 }
 
-/// A term with numbers. An `Err` says that memory ran out.
+/// A term with numbers.
 #[cycle(number_terms)]
 fn numbered_term(alloc: Global, names: &Names, term: &ReadTerm) -> Result<Term, NoMemory>
     requires { IsTrue (is_some (numbered_term names.now (term_syntax term.now))) }
@@ -47,7 +47,7 @@ fn numbered_term(alloc: Global, names: &Names, term: &ReadTerm) -> Result<Term, 
     }
 }
 
-/// A list of terms with numbers. An `Err` says that memory ran out.
+/// A list of terms with numbers.
 #[cycle(number_terms)]
 fn numbered_terms(alloc: Global, names: &Names, terms: &ReadTerms) -> Result<TermList, NoMemory>
     requires { IsTrue (is_some (numbered_terms names.now (terms_syntax terms.now))) }
@@ -122,7 +122,7 @@ fn joined(op: ManyOperator, members: FormulaList) -> Formula
     }
 }
 
-/// A formula with numbers. An `Err` says that memory ran out.
+/// A formula with numbers.
 #[cycle(number_formulas)]
 fn numbered_formula(
     alloc: Global,
@@ -168,7 +168,7 @@ fn numbered_formula(
     }
 }
 
-/// A list of formulas with numbers. An `Err` says that memory ran out.
+/// A list of formulas with numbers.
 #[cycle(number_formulas)]
 fn numbered_members(
     alloc: Global,
@@ -189,7 +189,7 @@ fn numbered_members(
     FormulaList::from_vec(alloc, trees)
 }
 
-/// Adds the formulas of a section with numbers. An `Err` says that memory ran out.
+/// Adds the formulas of a section with numbers.
 fn add_formulas(
     alloc: Global,
     names: &Names,
@@ -222,8 +222,7 @@ fn same_part(left: Part, right: Part) -> bool
     }
 }
 
-/// Adds the formulas of a section with numbers, where they go to this list. An `Err` says that memory
-/// ran out.
+/// Adds the formulas of a section with numbers, where they go to this list.
 fn add_section(
     alloc: Global,
     names: &Names,
@@ -244,7 +243,7 @@ fn add_section(
     Ok(())
 }
 
-/// The formulas of the sections that go to one list, with numbers. An `Err` says that memory ran out.
+/// The formulas of the sections that go to one list, with numbers.
 pub(crate) fn formulas_of_part(
     alloc: Global,
     names: &Names,

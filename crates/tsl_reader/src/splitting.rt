@@ -24,7 +24,7 @@ pub(crate) struct Parts<'a> {
     pub(crate) definitions: Vec<ReadDefinition<'a>>,
 }
 
-/// Adds a signal where there is no name of its text. An `Err` says that memory ran out.
+/// Adds a signal where there is no name of its text.
 fn add_signal(names: &mut Names, text: &[u8]) -> Result<(), NoMemory>
     requires { length names.old + 1 < 2 ^ 32 }
     ensures added { OnOk result (names.new ≡ with_use names.old
@@ -37,7 +37,7 @@ fn add_signal(names: &mut Names, text: &[u8]) -> Result<(), NoMemory>
     Ok(())
 }
 
-/// Parameters, each once. An `Err` says that memory ran out.
+/// Parameters, each once.
 fn names_once(alloc: Global, parameters: &[&[u8]]) -> Result<Names, NoMemory>
     requires { length parameters.now < 2 ^ 32 }
     ensures { IfOk result (λ names. names ≡ names_once (map (λ p. p.now) parameters.now)) }
@@ -49,7 +49,7 @@ fn names_once(alloc: Global, parameters: &[&[u8]]) -> Result<Names, NoMemory>
     Ok(names)
 }
 
-/// A definition, with each parameter once. An `Err` says that memory ran out.
+/// A definition, with each parameter once.
 fn with_names_once<'a>(
     alloc: Global,
     equation: ReadEquation<'a>,
@@ -66,7 +66,7 @@ fn with_names_once<'a>(
     })
 }
 
-/// Adds a declaration to the sections or to the definitions. An `Err` says that memory ran out.
+/// Adds a declaration to the sections or to the definitions.
 fn add_declaration<'a>(
     alloc: Global,
     parts: &mut Parts<'a>,
@@ -91,7 +91,7 @@ fn add_declaration<'a>(
     Ok(())
 }
 
-/// The sections and the definitions among declarations. An `Err` says that memory ran out.
+/// The sections and the definitions among declarations.
 pub(crate) fn parts_of<'a>(
     alloc: Global,
     mut declarations: Vec<ReadDeclaration<'a>>,

@@ -155,7 +155,7 @@ fn add_section<'a>(list: &mut Vec<ReadUse<'a>>, section: &ReadSection<'a>) -> Re
     Ok(())
 }
 
-/// All uses of the sections of a text. An `Err` says that memory ran out.
+/// All uses of the sections of a text.
 pub(crate) fn all_uses<'a>(
     alloc: Global,
     sections: &[ReadSection<'a>],

@@ -170,7 +170,7 @@ pub enum Fault {
     Large(LimitName, u32),
 }
 
-/// The line that says what the fault is, with its line feed. An `Err` says that memory ran out.
+/// The line that says what the fault is, with its line feed.
 pub fn fault_text(alloc: Global, fault: &Fault) -> Result<Vec<u8>, NoMemory>
     ensures { IfOk result (λ text. text.items ≡ fault_text fault.now) }
 {

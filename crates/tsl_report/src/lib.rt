@@ -1,8 +1,7 @@
 //! The texts of reports.
 //!
-//! `fault_text` gives the line that says why a text or the words were refused: at Ok exactly the
-//! bytes that the definition of the same name gives for the fault, which is a table of its cases.
-//! An `Err` says that memory ran out.
+//! `fault_text` gives the line that says why a text or the words were refused: at Ok exactly the bytes that the
+//! definition of the same name gives for the fault, which is a table of its cases.
 //!
 //! The other texts are those of the crates below, each with its definition: formulas
 //! (`formula_text`), environments, windows and rounds (`environment_text`), what a search says that

@@ -22,7 +22,7 @@ pub enum AtomRef<'a> {
     Update(u32, &'a Term),
 }
 
-/// The atoms of a formula, from the left. An `Err` says that memory ran out.
+/// The atoms of a formula, from the left.
 pub fn atoms<'a>(alloc: Global, formula: &'a Formula) -> Result<Vec<AtomRef<'a>>, NoMemory>
     ensures { IfOk result
         (λ list. map atom_tree list.items ≡ atoms (formula_tree formula.now)) }
@@ -32,7 +32,7 @@ pub fn atoms<'a>(alloc: Global, formula: &'a Formula) -> Result<Vec<AtomRef<'a>>
     Ok(list)
 }
 
-/// The atoms of a specification's whole formula, from the left. An `Err` says that memory ran out.
+/// The atoms of a specification's whole formula, from the left.
 pub fn atoms_of_spec<'a>(alloc: Global, spec: &'a Spec) -> Result<Vec<AtomRef<'a>>, NoMemory>
     ensures { IfOk result (λ list. map atom_tree list.items
         ≡ atoms (whole_formula (spec_tree spec.now))) }

@@ -17,10 +17,9 @@ use crate::term::{Term, TermList};
 use base_library::NoMemory;
 use std::alloc::Global;
 
-/// The choices of a cell or an output: the terms that its updates name, by first appearance in the
-/// whole formula from the left, without repeats, and for a cell the cell itself, last unless an
-/// update names it. A signal that no update names on its left has none. It compares each term with
-/// those before. An `Err` says that memory ran out.
+/// The choices of a cell or an output: the terms that its updates name, by first appearance in the whole formula from
+/// the left, without repeats, and for a cell the cell itself, last unless an update names it. A signal that no update
+/// names on its left has none. It compares each term with those before.
 pub fn choices(alloc: Global, spec: &Spec, signal: u32) -> Result<Vec<Term>, NoMemory>
     ensures { IfOk result
         (λ terms. map term_tree terms.items ≡ choices_of (spec_tree spec.now) signal) }

@@ -29,8 +29,7 @@ pub enum Quality {
     Arity,
 }
 
-/// The names of uses in the order of their first uses, each as it is used first. An `Err` says that
-/// memory ran out.
+/// The names of uses in the order of their first uses, each as it is used first.
 pub fn first_uses(alloc: Global, uses: &[NameUse]) -> Result<Names, NoMemory>
     requires { length (first_uses (map name_use uses.now)) < 2 ^ 32 }
     ensures { IfOk result (λ names. names ≡ first_uses (map name_use uses.now)) }

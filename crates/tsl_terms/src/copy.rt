@@ -11,7 +11,7 @@ use crate::window::{Equated, Listed, Window};
 use base_library::{NoMemory, Sequence};
 use std::alloc::Global;
 
-/// An equal term. An `Err` says that memory ran out.
+/// An equal term.
 #[cycle(copy_terms)]
 pub fn copy_term(alloc: Global, term: &Term) -> Result<Term, NoMemory>
     ensures { IfOk result (λ copy. term_tree copy ≡ term_tree term.now) }
@@ -39,7 +39,7 @@ pub(crate) fn copy_terms(alloc: Global, terms: &TermList) -> Result<TermList, No
     TermList::from_vec(alloc, copies)
 }
 
-/// An equal probe. An `Err` says that memory ran out.
+/// An equal probe.
 pub fn copy_probe(alloc: Global, probe: &Probe) -> Result<Probe, NoMemory>
     ensures { IfOk result (λ copy. probe_tree copy ≡ probe_tree probe.now) }
 {
@@ -49,7 +49,7 @@ pub fn copy_probe(alloc: Global, probe: &Probe) -> Result<Probe, NoMemory>
     })
 }
 
-/// An equal formula. An `Err` says that memory ran out.
+/// An equal formula.
 #[cycle(copy_formulas)]
 #[tactic(auto, using(crate::proofs::FormulaLemmas::formulas_of_members))]
 pub fn copy_formula(alloc: Global, formula: &Formula) -> Result<Formula, NoMemory>
@@ -119,7 +119,7 @@ pub(crate) fn copy_members(alloc: Global, formulas: &FormulaList) -> Result<Vec<
     Ok(copies)
 }
 
-/// An equal window. An `Err` says that memory ran out.
+/// An equal window.
 pub fn copy_window(alloc: Global, window: &Window) -> Result<Window, NoMemory>
     ensures { IfOk result (λ copy. window_tree copy ≡ window_tree window.now) }
 {

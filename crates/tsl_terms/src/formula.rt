@@ -66,7 +66,7 @@ impl Drop for FormulaList {
 }
 
 impl FormulaList {
-    /// The list of these formulas, in their order. An `Err` says that memory ran out.
+    /// The list of these formulas, in their order.
     #[tactic(auto, using(crate::proofs::FormulaLemmas::with_front_none, crate::proofs::FormulaLemmas::with_front_push))]
     pub fn from_vec(alloc: Global, mut formulas: Vec<Formula>) -> Result<FormulaList, NoMemory>
         ensures { IfOk result

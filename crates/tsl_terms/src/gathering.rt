@@ -17,8 +17,8 @@ use crate::term::Probe;
 use base_library::NoMemory;
 use std::alloc::Global;
 
-/// The predicate terms of a specification's whole formula, by first appearance from the left, without
-/// repeats. It compares each with those before. An `Err` says that memory ran out.
+/// The predicate terms of a specification's whole formula, by first appearance from the left, without repeats. It
+/// compares each with those before.
 pub fn predicates(alloc: Global, spec: &Spec) -> Result<Vec<Probe>, NoMemory>
     ensures { IfOk result
         (λ probes. map probe_tree probes.items ≡ predicates_of (spec_tree spec.now)) }

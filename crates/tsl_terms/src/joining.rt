@@ -12,9 +12,9 @@ use crate::spec::Spec;
 use base_library::NoMemory;
 use std::alloc::Global;
 
-/// The formula that a specification stands for: what is guaranteed, under what is assumed where
-/// something is. What holds always stands under `Globally`, after what holds at first. A conjunction
-/// is `True` for no formula and the formula itself for one. An `Err` says that memory ran out.
+/// The formula that a specification stands for: what is guaranteed, under what is assumed where something is. What
+/// holds always stands under `Globally`, after what holds at first. A conjunction is `True` for no formula and the
+/// formula itself for one.
 pub fn whole(alloc: Global, spec: &Spec) -> Result<Formula, NoMemory>
     ensures { IfOk result
         (λ formula. formula_tree formula ≡ whole_formula (spec_tree spec.now)) }

@@ -68,7 +68,7 @@ impl Names {
         }
     }
 
-    /// The same list of names. An `Err` says that memory ran out.
+    /// The same list of names.
     pub fn copy(&self) -> Result<Names, NoMemory>
         ensures { IfOk result (λ names. names ≡ self.now) }
     {
@@ -79,7 +79,7 @@ impl Names {
         Ok(names)
     }
 
-    /// Adds a name at the end, and answers its number. An `Err` says that memory ran out.
+    /// Adds a name at the end, and answers its number.
     pub fn add(&mut self, text: &[u8], kind: NameKind, arity: u32) -> Result<u32, NoMemory>
         requires absent { number_of self.old text.now ≡ None }
         requires room { length self.old + 1 < 2 ^ 32 }

@@ -22,9 +22,9 @@ pub struct SignalLists {
     pub outputs: Sequence<u32>,
 }
 
-/// The inputs, cells and outputs of a specification. A signal on the left of an update is a cell
-/// where some term or bare name reads it, and else an output; every other signal is an input. It
-/// takes time in proportion to the formulas' nodes and the names. An `Err` says that memory ran out.
+/// The inputs, cells and outputs of a specification. A signal on the left of an update is a cell where some term or
+/// bare name reads it, and else an output; every other signal is an input. It takes time in proportion to the
+/// formulas' nodes and the names.
 pub fn signals(alloc: Global, spec: &Spec) -> Result<SignalLists, NoMemory>
     ensures inputs { IfOk result (λ lists. lists.inputs ≡ inputs_of (spec_tree spec.now)) }
     ensures cells { IfOk result (λ lists. lists.cells ≡ cells_of (spec_tree spec.now)) }

@@ -42,7 +42,7 @@ impl Drop for TermList {
 }
 
 impl TermList {
-    /// The list of these terms, in their order. An `Err` says that memory ran out.
+    /// The list of these terms, in their order.
     #[tactic(auto, using(crate::proofs::TermLemmas::with_front_none, crate::proofs::TermLemmas::with_front_push))]
     pub fn from_vec(alloc: Global, mut terms: Vec<Term>) -> Result<TermList, NoMemory>
         ensures { IfOk result (λ list. term_trees list ≡ terms_of (map term_tree terms.items)) }

@@ -14,9 +14,9 @@ use crate::window::{Listed, Window};
 use base_library::NoMemory;
 use std::alloc::Global;
 
-/// The formula of a window: always, if each listed update and each listed equality holds at its
-/// offset, the left probe at its step is as the right one at the last, or, without a left probe, the
-/// right one holds at the last. It nests one level for each step. An `Err` says that memory ran out.
+/// The formula of a window: always, if each listed update and each listed equality holds at its offset, the left
+/// probe at its step is as the right one at the last, or, without a left probe, the right one holds at the last. It
+/// nests one level for each step.
 pub fn window_formula(alloc: Global, window: &Window) -> Result<Formula, NoMemory>
     ensures { IfOk result
         (λ formula. formula_tree formula ≡ window_formula_of (window_tree window.now)) }
@@ -42,8 +42,8 @@ fn formula_of_sides(alloc: Global, window: &Window) -> Result<Formula, NoMemory>
     }
 }
 
-/// A formula under the assumption of windows: their formulas in order are the premise, where there are
-/// some, and it is itself where there are none. An `Err` says that memory ran out.
+/// A formula under the assumption of windows: their formulas in order are the premise, where there are some, and it
+/// is itself where there are none.
 pub fn under(alloc: Global, windows: &[Window], formula: Formula) -> Result<Formula, NoMemory>
     ensures { IfOk result
         (λ f. formula_tree f ≡ under_windows (map window_tree windows.now) (formula_tree formula)) }

@@ -134,9 +134,8 @@ impl<T: Drop> From<AllocFailed<T>> for TextError {
 /// The tokens of a text, in order. A text divides into blanks, comments and tokens, each token the
 /// longest at its place; comments between `/*` and `*/` nest.
 ///
-/// An `Err` has the text's first fault, or says that memory ran out: `Byte` the first byte outside
-/// comments that begins no blank, comment or token, `OpenComment` the outermost `/*` that is not
-/// closed, whichever of the two stands first.
+/// An `Err` has the text's first fault: `Byte` the first byte outside comments that begins no blank, comment or
+/// token, `OpenComment` the outermost `/*` that is not closed, whichever of the two stands first.
 pub fn tokens(alloc: Global, text: &[u8]) -> Result<Vec<Token>, TextError>
     requires { length text.now < 2 ^ 32 }
     ensures ok { IfOk result (λ tokens. AreTokens text.now tokens.items) }

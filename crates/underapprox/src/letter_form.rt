@@ -16,9 +16,9 @@ use base_library::NoMemory;
 use std::alloc::Global;
 use tsl_terms::{Formula, FormulaList};
 
-/// The letter form of a formula: negations stand at bits alone, and each test and update is its
-/// bit. An atom that has no bit holds nowhere. On each loop of letters the form holds exactly where
-/// the formula does, its atoms read from their bits. An `Err` says that memory ran out.
+/// The letter form of a formula: negations stand at bits alone, and each test and update is its bit. An atom that has
+/// no bit holds nowhere. On each loop of letters the form holds exactly where the formula does, its atoms read from
+/// their bits.
 pub fn to_letters(alloc: Global, formula: &Formula, space: &Space) -> Result<Ltl, NoMemory>
     ensures form { IfOk result
         (λ made. ltl_tree made ≡ letter_form (space_tree space.now) (formula_tree formula.now)) }

@@ -48,7 +48,7 @@ fn given_for(
     }
 }
 
-/// What is given for each name. An `Err` says that memory ran out.
+/// What is given for each name.
 fn all_given(
     alloc: Global,
     names: &Names,
@@ -156,7 +156,7 @@ fn domain_of(bits: u64) -> u32
     2u32.pow(bits as u32)
 }
 
-/// A copy of numbers. An `Err` says that memory ran out.
+/// A copy of numbers.
 fn copied(alloc: Global, numbers: &[u32]) -> Result<Vec<u32>, NoMemory>
     ensures { IfOk result (λ all. all.items ≡ numbers.now) }
 {

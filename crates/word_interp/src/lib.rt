@@ -131,7 +131,7 @@ impl From<EntryFault> for WordError {
 
 /// The interpretation that a text spells for the names, with a value at first for each of the cells.
 ///
-/// An `Err` has the cause why the text spells none, or says that memory ran out.
+/// An `Err` has the cause why the text spells none.
 pub fn read_words(
     alloc: Global,
     text: &[u8],
