@@ -11,6 +11,10 @@ use std::alloc::Global;
 use std::marker::Model;
 
 /// Want of memory: std's `AllocError` under the name that this repository's calls give it.
+///
+/// A call whose error is `NoMemory`, or has a variant of that name, answers it exactly where the allocator refused
+/// memory. What the call was lent is then as it was, unless the call's own comment says otherwise. So no other comment
+/// in this repository says that an `Err` may mean that memory ran out.
 pub use std::alloc::AllocError as NoMemory;
 
 /// A list of members, in order. A clause sees it as that list.
