@@ -11,10 +11,10 @@ ghost use Rattle.annotation_check.specs.internal.Growth.{HasNone, HasAnnotation,
 
 use crate::growing::Pairs;
 use crate::pairing::{controller_pairs, environment_pairs};
+use base_library::{NoMemory, Sequence};
 use cobuchi_automata::Automaton;
 use letter_space::Space;
 use machines::{Controller, Environment};
-use base_library::{NoMemory, Sequence};
 use std::alloc::Global;
 
 /// Numbers of pairs of a machine's state and an automaton's state.

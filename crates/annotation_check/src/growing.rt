@@ -11,9 +11,9 @@ ghost use Rattle.annotation_check.specs.internal.Steps.{after_step};
 
 use crate::listing::Listing;
 use crate::stepping::{KeptSteps, Step, steps_of};
+use base_library::NoMemory;
 use cobuchi_automata::Edge;
 use machines::Move;
-use base_library::NoMemory;
 use std::alloc::Global;
 
 /// A number that a pair of states gets.

@@ -4,8 +4,8 @@ ghost use Rattle.std.specs.Prelude.{◌≡◌, ℕ, ◌<◌, map, length, vec_le
 ghost use Rattle.machines.specs.MachineView.{move_tree};
 ghost use Rattle.annotation_check.specs.internal.Listings.{IsMoveListing, IsRunEnd, AreRunEnds};
 
-use machines::Move;
 use base_library::NoMemory;
+use machines::Move;
 use std::alloc::Global;
 
 /// Moves by their letters, those to one state side by side.

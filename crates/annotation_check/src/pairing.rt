@@ -12,10 +12,10 @@ ghost use Rattle.annotation_check.specs.internal.Pairs.{move_lists, moves_in, wi
 ghost use Rattle.annotation_check.specs.internal.PairsView.{pairs_tree};
 
 use crate::growing::Pairs;
+use base_library::NoMemory;
 use cobuchi_automata::{Automaton, Edge};
 use letter_space::Space;
 use machines::{Controller, Environment, Move};
-use base_library::NoMemory;
 use std::alloc::Global;
 
 /// The pairs of a controller's and an automaton's states, with a bound on their numbers.

@@ -9,9 +9,9 @@ ghost use Rattle.annotation_check.specs.internal.Listings.{IsMoveListing};
 ghost use Rattle.annotation_check.specs.internal.Steps.{IsStepOf, AreSteps};
 
 use crate::listing::Listing;
+use base_library::NoMemory;
 use cobuchi_automata::Edge;
 use lane_planes::{first_bit, matching};
-use base_library::NoMemory;
 use std::alloc::Global;
 
 /// A pair of states after another one, and whether the edge to it is rejecting.

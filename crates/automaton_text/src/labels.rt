@@ -5,8 +5,8 @@ ghost use Rattle.base_library.specs.Numbers.{numbers_from};
 ghost use Rattle.ltl_formula.specs.Cubes.{has_bit};
 ghost use Rattle.automaton_text.specs.HoaText.{literal_text, bits_asked, joined};
 
-use ltl_formula::Cube;
 use base_library::NoMemory;
+use ltl_formula::Cube;
 use tsl_text::{put_bytes, put_number};
 
 /// Whether a number has a bit.

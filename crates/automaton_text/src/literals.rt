@@ -6,9 +6,9 @@ ghost use Rattle.automaton_text.specs.HoaLines.{Numbers, number_leaves, Literals
 ghost use Rattle.letter_space.specs.Letters.{with_bit};
 ghost use Rattle.automaton_text.specs.HoaView.{literal_tree, literal_trees, literal_value};
 
+use base_library::NoMemory;
 use line_formats::{first_number, past};
 use ltl_formula::Cube;
-use base_library::NoMemory;
 use std::alloc::Global;
 
 /// A bit, and whether it is to be set.

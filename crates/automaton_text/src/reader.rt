@@ -13,10 +13,10 @@ use crate::header::{Head, head_after};
 use crate::hoa_error::HoaError;
 use crate::lines::{begins, bits_in, edge_in, says, state_in, states_in};
 use crate::literals::{Literal, cube_of, literals_in, rise};
+use base_library::{NoMemory, Sequence};
 use cobuchi_automata::{Automaton, Edge, MOST_AUTOMATON_EDGES, MOST_AUTOMATON_STATES};
 use letter_space::MOST_BITS;
 use line_formats::{LastLine, LineReader, TextError, read_text};
-use base_library::{NoMemory, Sequence};
 use std::alloc::Global;
 
 /// An automaton, and of how many bits its edges ask.

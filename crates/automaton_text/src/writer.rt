@@ -18,9 +18,9 @@ ghost use Rattle.automaton_text.specs.internal.Written.{listed_lines};
 
 use crate::labels::put_label;
 use annotation_check::edges_by_state;
+use base_library::NoMemory;
 use cobuchi_automata::{Automaton, Edge};
 use letter_space::{Controlled, Space};
-use base_library::NoMemory;
 use std::alloc::Global;
 use term_text::{put_probe, put_update};
 use tsl_terms::{Names, Probe, Term};

@@ -12,9 +12,9 @@ use std::marker::Model;
 
 /// Want of memory: std's `AllocError` under the name that this repository's calls give it.
 ///
-/// A call whose error is `NoMemory`, or has a variant of that name, answers it exactly where the allocator refused
-/// memory. What the call was lent is then as it was, unless the call's own comment says otherwise. So no other comment
-/// in this repository says that an `Err` may mean that memory ran out.
+/// A call whose error is `NoMemory`, or has a variant of that name, answers it where memory ran out. Its contract says
+/// what holds at `Ok`; what it was lent may have changed at that error, unless its comment or its contract says
+/// otherwise. So no other comment says again that an `Err` may mean that memory ran out.
 pub use std::alloc::AllocError as NoMemory;
 
 /// A list of members, in order. A clause sees it as that list.

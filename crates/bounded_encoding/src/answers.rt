@@ -1,10 +1,10 @@
 //! Answers to the question for a controller.
 
 use annotation_check::Annotation;
+use base_library::Sequence;
 use clause_core::{Clause, Cnf};
 use machines::Controller;
 use refutation_check::Log;
-use base_library::Sequence;
 
 /// What a search for a controller came to.
 #[derive(Drop)]

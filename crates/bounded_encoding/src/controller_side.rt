@@ -20,8 +20,8 @@ use crate::errors::EncodeError;
 use crate::frame::{Frame, variables_in_all};
 use crate::side::Side;
 use crate::transition_clauses::add_side;
-use cobuchi_automata::Edge;
 use base_library::NoMemory;
+use cobuchi_automata::Edge;
 use std::alloc::Global;
 
 /// Whether a number has a bit from one on.

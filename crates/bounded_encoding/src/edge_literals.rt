@@ -10,9 +10,9 @@ ghost use Rattle.bounded_encoding.specs.Sides.{differing};
 ghost use Rattle.bounded_encoding.specs.internal.Transitions.{moved, IsAround, IsRoom};
 
 use crate::simple_clauses::literal;
+use base_library::NoMemory;
 use clause_core::Literal;
 use cobuchi_automata::Edge;
-use base_library::NoMemory;
 use std::alloc::Global;
 
 /// A state of the machine, an edge, and a row that meets it, with the index of the first variable of what the machine

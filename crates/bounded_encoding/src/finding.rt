@@ -14,10 +14,10 @@ use crate::answers::Found;
 use crate::encoding::encode;
 use crate::errors::EncodeError;
 use crate::reading::{annotation_read, controller_read};
+use base_library::NoMemory;
 use cobuchi_automata::Automaton;
 use letter_space::Space;
 use sat_core::{Answer, solve};
-use base_library::NoMemory;
 use std::alloc::Global;
 
 /// Looks for a controller with so many states and an annotation within a bound, where so many clauses may be

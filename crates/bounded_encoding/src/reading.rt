@@ -13,10 +13,10 @@ ghost use Rattle.bounded_encoding.specs.internal.Reading.{choice_from, entry_num
 ghost use Rattle.bounded_encoding.specs.Reading.{next_from, number_from, numbers_from_index};
 
 use annotation_check::Annotation;
+use base_library::{NoMemory, Sequence};
 use cobuchi_automata::Automaton;
 use letter_space::{Controlled, Space};
 use machines::{Controller, Entry};
-use base_library::{NoMemory, Sequence};
 use std::alloc::Global;
 
 /// The controller with so many states that truths say. Those of the variables of choices stand first, and

@@ -4,8 +4,8 @@ ghost use Rattle.std.specs.Prelude.{◌≡◌, ℕ, List, IfOk};
 ghost use Rattle.cobuchi_automata.specs.Automata.{EdgeTree};
 ghost use Rattle.cobuchi_automata.specs.Edges.{edge_tree};
 
-use cobuchi_automata::Edge;
 use base_library::NoMemory;
+use cobuchi_automata::Edge;
 use std::alloc::Global;
 
 /// One side of a question, that of the machine that is looked for.

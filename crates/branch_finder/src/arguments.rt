@@ -5,8 +5,8 @@ ghost use Rattle.tsl_terms.specs.TermTree.{term_tree, term_trees, probe_tree, te
 ghost use Rattle.letter_space.specs.SpaceView.{space_tree};
 ghost use Rattle.branch_finder.specs.internal.Arguments.{arguments_of, AreStarts};
 
-use letter_space::Space;
 use base_library::NoMemory;
+use letter_space::Space;
 use std::alloc::Global;
 use tsl_terms::{Term, TermList, copy_term};
 

@@ -11,10 +11,10 @@ ghost use Rattle.branch_finder.specs.internal.Sets.{AreMasks};
 ghost use Rattle.branch_finder.specs.internal.Planes.{IsPlaneOf, GoesUnder, AreLinks, AreLinksOf};
 
 use crate::planes::{has_bit, no_bits, set_bit};
+use base_library::{NoMemory, Sequence};
 use lane_planes::matching;
 use letter_space::Space;
 use machines::Environment;
-use base_library::{NoMemory, Sequence};
 use std::alloc::Global;
 
 /// Adds a vector at the end of others where it belongs there.

@@ -12,8 +12,8 @@ ghost use Rattle.branch_finder.specs.internal.Paths.{update_to, updates_picked, 
 ghost use Rattle.branch_finder.specs.internal.Paths.{equality_if, equalities_in, equalities_along};
 
 use crate::prints::is_set;
-use letter_space::{Controlled, Space};
 use base_library::NoMemory;
+use letter_space::{Controlled, Space};
 use std::alloc::Global;
 use tsl_terms::{Equated, Listed, Probe, Term, copy_probe, copy_term};
 

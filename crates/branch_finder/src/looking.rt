@@ -16,10 +16,10 @@ ghost use Rattle.branch_finder.specs.internal.Looking.{pair_tree, IsSearch, IsWa
 use crate::differing::may_differ;
 use crate::moving::{is_some_with, states_after, states_with};
 use crate::prints::{bit_wanted, is_set};
+use base_library::{NoMemory, Sequence};
 use lane_planes::any_bit;
 use letter_space::Space;
 use machines::Environment;
-use base_library::{NoMemory, Sequence};
 use std::alloc::Global;
 use tsl_terms::Term;
 

@@ -12,9 +12,9 @@ ghost use Rattle.branch_finder.specs.internal.Looking.{IsSearch};
 use crate::looking::Search;
 use crate::planes::{has_bit, no_bits, set_bit};
 use crate::prints::Wanted;
+use base_library::{NoMemory, Sequence};
 use lane_planes::or_into;
 use machines::Environment;
-use base_library::{NoMemory, Sequence};
 use std::alloc::Global;
 
 /// The states in which an environment may be at first or later, as a plane.

@@ -7,9 +7,9 @@ ghost use Rattle.machines.specs.MachineView.{environment_tree};
 ghost use Rattle.branch_finder.specs.internal.Prints.{AreEqualityBits, ArePrints};
 
 use crate::visiting::add_once;
+use base_library::NoMemory;
 use letter_space::Space;
 use machines::Environment;
-use base_library::NoMemory;
 use std::alloc::Global;
 use tsl_terms::is_equality;
 

@@ -10,8 +10,8 @@ ghost use Rattle.letter_space.specs.SpaceView.{space_tree};
 ghost use Rattle.branch_finder.specs.internal.Relevant.{IsUnread, AreUnread, AreRelevant, others_of};
 
 use crate::visiting::is_found;
-use letter_space::{Controlled, Space};
 use base_library::NoMemory;
+use letter_space::{Controlled, Space};
 use std::alloc::Global;
 use tsl_terms::{Probe, Term, some_term_reads, term_reads};
 

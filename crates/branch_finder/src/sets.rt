@@ -8,8 +8,8 @@ ghost use Rattle.letter_space.specs.Vectors.{vector_count};
 ghost use Rattle.branch_finder.specs.internal.Sets.{mask_of, bit_taken, with_updates, set_of, AreSets};
 
 use crate::listing::term_taken;
-use letter_space::Space;
 use base_library::NoMemory;
+use letter_space::Space;
 use std::alloc::Global;
 
 /// The masks of so many vectors: the bits of the updates that each one picks.

@@ -15,8 +15,8 @@ ghost use Rattle.branch_finder.specs.internal.Looking.{pair_tree, IsWalk, IsPair
 
 use crate::listing::term_taken;
 use crate::looking::{Pair, Walk, is_told_apart};
-use letter_space::{Controlled, Space};
 use base_library::NoMemory;
+use letter_space::{Controlled, Space};
 use std::alloc::Global;
 use tsl_terms::{Probe, Term, TermList};
 

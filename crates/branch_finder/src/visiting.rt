@@ -5,8 +5,8 @@ ghost use Rattle.base_library.specs.Numbers.{is_among};
 ghost use Rattle.machines.specs.MachineView.{environment_tree};
 ghost use Rattle.branch_finder.specs.internal.Visiting.{AreFoundUpTo, AreVisited};
 
-use machines::Environment;
 use base_library::NoMemory;
+use machines::Environment;
 use std::alloc::Global;
 
 /// Adds a number at the end of others where it is not there.

@@ -10,13 +10,13 @@ ghost use Rattle.checking_commands.specs.Judged.{IsJudged};
 ghost use Rattle.checking_commands.specs.internal.CheckView.{check_parts, AreShortTexts, AreSpelled, AreTextsJudged};
 
 use crate::run_faults::fault_of_program;
+use base_library::NoMemory;
+use command_faults::{PROGRAM_LINE, cut_before, fault_of, fault_of_limit, fault_reply};
 use flow_program::read_program;
 use program_check::{CheckError, Verdict, accept};
 use program_tree::Program;
-use base_library::NoMemory;
 use std::alloc::Global;
 use tool_io::{Reply, Status};
-use command_faults::{PROGRAM_LINE, cut_before, fault_of, fault_of_limit, fault_reply};
 use tsl_reader::read_spec;
 use tsl_report::{Fault, Head};
 use tsl_terms::{Names, Spec};

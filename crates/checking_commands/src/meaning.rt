@@ -17,8 +17,8 @@ ghost use Rattle.checking_commands.specs.internal.RunView.{interpretation_read, 
 
 use crate::parting::Style;
 use crate::run_faults::{fault_of_tables, fault_of_words};
-use program_tree::Program;
 use base_library::NoMemory;
+use program_tree::Program;
 use std::alloc::Global;
 use table_interp::{Tables, read_tables};
 use table_runner::{RunError, run_closed};

@@ -6,15 +6,15 @@ ghost use Rattle.cnf_reader.specs.CnfText.{cnf_answer};
 ghost use Rattle.refutation_check.specs.LogText.{log_answer};
 ghost use Rattle.checking_commands.specs.Recheck.{RecheckOutcome, parts_reply, log_reply, verdict};
 
+use base_library::NoMemory;
 use clause_core::Cnf;
 use cnf_reader::{CnfError, read_dimacs};
+use command_faults::fault_reply;
 use refutation_check::{
     Log, LogError, LogTextError, MOST_CLAUSES, MOST_VARIABLES, check, read_lrat,
 };
-use base_library::NoMemory;
 use std::alloc::Global;
 use tool_io::{Reply, Status};
-use command_faults::fault_reply;
 use tsl_report::{Fault, Head, LimitName};
 use tsl_text::{line_at, put_bytes, put_number};
 

@@ -5,11 +5,11 @@ ghost use Rattle.term_text.specs.TermText.{name_text};
 ghost use Rattle.checking_commands.specs.RunFaults.{name_in_text, IsProgramFault, IsTableFault, IsWordsFault, IsInputFault};
 ghost use Rattle.checking_commands.specs.internal.RunFaultPlaces.{ProgramStandsIn, TableStandsIn, WordStandsIn, InputStandsIn};
 
-use flow_program::{MOST_NODES, MOST_STATES, MOST_WINDOWS, Name, ProgramError};
 use base_library::{NoMemory, Sequence};
+use command_faults::{name_between, place_in};
+use flow_program::{MOST_NODES, MOST_STATES, MOST_WINDOWS, Name, ProgramError};
 use std::alloc::Global;
 use table_interp::{InputError, MOST_ENTRIES, MOST_ROWS, MOST_VALUES, TableError};
-use command_faults::{name_between, place_in};
 use tsl_report::{DataPart, Fault, LimitName, ProgramRule, TokenPart};
 use tsl_terms::Names;
 use word_interp::{MOST_BITS, WordError};

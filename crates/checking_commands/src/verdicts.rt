@@ -16,8 +16,8 @@ ghost use Rattle.checking_commands.specs.Run.{verdict_status};
 ghost use Rattle.checking_commands.specs.internal.RunView.{given_spec, meanings_read, verdict_in, verdicts_in};
 
 use crate::meaning::Meaning;
-use program_tree::Program;
 use base_library::NoMemory;
+use program_tree::Program;
 use std::alloc::Global;
 use tool_io::{Reply, Status};
 use trace_text::trace_text;

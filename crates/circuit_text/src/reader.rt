@@ -13,9 +13,9 @@ ghost use Rattle.circuit_text.specs.internal.ReaderView.{told, reader_state, cir
 
 use crate::counts::Counts;
 use crate::parts::{header, one_number, three_numbers, two_numbers};
+use base_library::{NoMemory, Sequence};
 use circuits::{Circuit, Gate};
 use line_formats::{LastLine, LineReader, TextError, read_text};
-use base_library::{NoMemory, Sequence};
 use std::alloc::Global;
 
 /// What was read so far.

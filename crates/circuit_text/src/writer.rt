@@ -8,8 +8,8 @@ ghost use Rattle.circuits.specs.GateView.{gate_tree};
 ghost use Rattle.circuit_text.specs.CircuitText.{numbers_line, header_line, input_line, latch_lines, output_line};
 ghost use Rattle.circuit_text.specs.CircuitText.{gate_lines, circuit_text};
 
-use circuits::{Circuit, Gate};
 use base_library::NoMemory;
+use circuits::{Circuit, Gate};
 use std::alloc::Global;
 use tsl_text::{put_bytes, put_number};
 

@@ -11,9 +11,9 @@ ghost use Rattle.clause_learning.specs.ConflictAnalysis.{is_seen, AreSeen, AreNo
 
 use crate::seen::Seen;
 use crate::units::Units;
+use base_library::NoMemory;
 use clause_core::Literal;
 use sat_trail::Trail;
-use base_library::NoMemory;
 use std::alloc::Global;
 
 /// What an analysis has found so far.

@@ -7,9 +7,9 @@ ghost use Rattle.clause_learning.specs.Queues.{IsVariableQueue, variable_count, 
 ghost use Rattle.clause_learning.specs.Decisions.{AreSet, IsUnset, AreForEach, AreDecisions, IsNextUnset, Decides, AreVariableTruths};
 
 use crate::queue::VariableQueue;
+use base_library::{NoMemory, Sequence};
 use clause_core::{Assignment, Literal};
 use sat_trail::Trail;
-use base_library::{NoMemory, Sequence};
 use std::alloc::Global;
 
 /// What is decided next: of the variables that are not set the most active one, to the value that it had

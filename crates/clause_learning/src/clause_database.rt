@@ -5,9 +5,9 @@ ghost use Rattle.clause_core.specs.Literals.{Lit};
 ghost use Rattle.clause_learning.specs.Hints.{AreHints};
 ghost use Rattle.clause_learning.specs.ClauseDatabases.{numbers_of, log_hints, AreFirst, AreKept};
 
+use base_library::NoMemory;
 use clause_core::{Clause, ClauseList, clause_of};
 use sat_trail::Trail;
-use base_library::NoMemory;
 use std::alloc::Global;
 
 /// The most literals of a learnt clause that always stays on the trail.

@@ -12,10 +12,10 @@ use crate::analysis::Analysis;
 use crate::choices::Decisions;
 use crate::proof_log::ProofLog;
 use crate::units::Units;
+use base_library::NoMemory;
 use clause_core::{Clause, clause_of};
 use refutation_check::Log;
 use sat_trail::Trail;
-use base_library::NoMemory;
 use std::alloc::Global;
 
 /// A clause that follows, the hints that show it, and the level to go back to.

@@ -4,8 +4,8 @@ ghost use Rattle.std.specs.Prelude.{◌≡◌, ◌==◌, ℕ, ◌*◌, ◌/◌, 
 ghost use Rattle.lane_planes.specs.Planes.{has_bit, word_at};
 ghost use Rattle.clause_learning.specs.NumberSets.{IsNumberSet, HasMember, IsFirstWord, IsLeastBit, contains, room};
 
-use lane_planes::first_bit;
 use base_library::NoMemory;
+use lane_planes::first_bit;
 use std::alloc::Global;
 
 /// Numbers below a limit as bits, in words of 64. A bit of `words` says whether a word of the members has

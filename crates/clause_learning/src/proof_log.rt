@@ -6,9 +6,9 @@ ghost use Rattle.clause_learning.specs.LearntClauses.{TakesStep};
 ghost use Rattle.clause_learning.specs.ClauseDatabases.{numbers_of, AreFirst};
 
 use crate::clause_database::{ClauseDatabase, first_use};
+use base_library::{NoMemory, Sequence};
 use clause_core::Clause;
 use refutation_check::{Log, Step};
-use base_library::{NoMemory, Sequence};
 use std::alloc::Global;
 
 /// The steps that were taken, and the clauses on the trail by their numbers.

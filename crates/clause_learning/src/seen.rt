@@ -8,9 +8,9 @@ ghost use Rattle.sat_trail.specs.States.{TrailState};
 ghost use Rattle.clause_learning.specs.Trails.{IsUsable};
 ghost use Rattle.clause_learning.specs.ConflictAnalysis.{is_seen, AreSeen, AreNoneSeen, IsSeenAt, IsCleared, stands_at, is_of_clause, is_covered_at, are_covered};
 
+use base_library::NoMemory;
 use clause_core::Literal;
 use sat_trail::Trail;
-use base_library::NoMemory;
 use std::alloc::Global;
 
 /// Which entries of a trail are seen.

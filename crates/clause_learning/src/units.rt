@@ -8,9 +8,9 @@ ghost use Rattle.clause_learning.specs.Units.{AreUnits, ShowAlone, AddsHint, Has
 ghost use Rattle.clause_learning.specs.Learning.{CanNote};
 
 use crate::proof_log::ProofLog;
+use base_library::NoMemory;
 use clause_core::{Clause, Literal, clause_of};
 use sat_trail::Trail;
-use base_library::NoMemory;
 use std::alloc::Global;
 
 /// Clauses of one literal on a trail, by their variables. What is true at level 0 gets such a clause, with a

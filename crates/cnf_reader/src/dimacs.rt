@@ -4,8 +4,8 @@ ghost use Rattle.std.specs.Prelude.{◌≡◌, ◌+◌, ◌^◌, ◌<◌, ℕ, E
 ghost use Rattle.cnf_reader.specs.CnfText.{cnf_answer, is_cnf, form_at, too_many_variables, too_many_clauses};
 
 use crate::CnfReader;
-use clause_core::Cnf;
 use base_library::NoMemory;
+use clause_core::Cnf;
 use std::alloc::Global;
 use thiserror::Error;
 use tsl_io::TakePieces;

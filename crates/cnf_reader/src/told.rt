@@ -5,9 +5,9 @@ ghost use Rattle.clause_core.specs.Clauses.{IsOver};
 ghost use Rattle.refutation_check.specs.Numbers.{is_zero};
 ghost use Rattle.cnf_reader.specs.internal.Told.{AreWithinLimits, ended_clauses};
 
+use base_library::NoMemory;
 use clause_core::{ClauseList, Literal};
 use refutation_check::{MOST_CLAUSES, MOST_VARIABLES, literal_of};
-use base_library::NoMemory;
 use std::alloc::Global;
 
 /// The numbers that a header tells.

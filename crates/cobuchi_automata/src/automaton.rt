@@ -3,8 +3,8 @@
 ghost use Rattle.std.specs.Prelude.{◌≤◌, All};
 ghost use Rattle.cobuchi_automata.specs.Edges.{IsBetween};
 
-use ltl_formula::Cube;
 use base_library::Sequence;
+use ltl_formula::Cube;
 
 /// An edge: the states that it joins, what it asks of the letter, and whether it is rejecting.
 #[derive(Debug, Clone, Copy, PartialEq, Eq, Hash)]

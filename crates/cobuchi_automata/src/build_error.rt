@@ -1,7 +1,7 @@
 //! Why a formula has no automaton within the limits.
 
-use obligations::StepError;
 use base_library::NoMemory;
+use obligations::StepError;
 use std::alloc::AllocFailed;
 use thiserror::Error;
 

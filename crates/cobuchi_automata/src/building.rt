@@ -14,9 +14,9 @@ use crate::build_error::BuildError;
 use crate::exploring::{Found, Plan, explore, start_of};
 use crate::known::none_known;
 use crate::untils::until_numbers;
+use base_library::{NoMemory, Sequence};
 use ltl_formula::Ltl;
 use obligations::{names_of_formula, no_expansions};
-use base_library::{NoMemory, Sequence};
 use std::alloc::Global;
 
 /// The automaton of the states and edges that are found, where each state is expanded.

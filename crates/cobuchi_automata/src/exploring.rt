@@ -19,10 +19,10 @@ use crate::counters::advanced;
 use crate::known::{KnownChoices, list_at, place_of_choices};
 use crate::states::{State, add_edge, add_state};
 use crate::untils::until_numbers;
+use base_library::NoMemory;
 use indexmap::IndexSet;
 use ltl_formula::{Cube, Ltl};
 use obligations::{NumberedChoice, names_of_formula, number_of};
-use base_library::NoMemory;
 use std::alloc::Global;
 
 /// A formula, the formulas that its steps may leave, whose places are their numbers, and the numbers of

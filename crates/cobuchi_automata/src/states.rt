@@ -11,9 +11,9 @@ ghost use Rattle.cobuchi_automata.specs.internal.Exploring.{state_key, state_key
 
 use crate::automaton::Edge;
 use crate::build_error::{BuildError, MOST_AUTOMATON_EDGES, MOST_AUTOMATON_STATES};
+use base_library::NoMemory;
 use indexmap::IndexSet;
 use obligations::code_of;
-use base_library::NoMemory;
 use std::hash::{Hash, Hasher};
 
 /// A set of formulas by their numbers, and the number of the until that is waited for.

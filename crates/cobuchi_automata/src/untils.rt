@@ -9,9 +9,9 @@ ghost use Rattle.obligations.specs.Expansion.{same_formula};
 ghost use Rattle.obligations.specs.Numbers.{lent_trees, formula_number};
 ghost use Rattle.cobuchi_automata.specs.Automata.{untils_in, untils_in_all, untils_of};
 
+use base_library::NoMemory;
 use ltl_formula::{Ltl, LtlList, compare};
 use obligations::number_of;
-use base_library::NoMemory;
 use std::alloc::Global;
 
 /// Whether a formula stands among others.

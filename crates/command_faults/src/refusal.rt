@@ -4,13 +4,13 @@ ghost use Rattle.std.specs.Prelude.{◌≡◌, ◌-◌, ◌<◌, ◌≤◌, ◌^
 ghost use Rattle.command_faults.specs.Refusals.{IsPlaceOf, IsFaultOf, name_between, fault_at_limit};
 ghost use Rattle.command_faults.specs.RefusalPlaces.{StandsIn};
 
+use base_library::{NoMemory, Sequence};
 use branch_finder::MOST_BRANCHES;
 use cobuchi_automata::{MOST_AUTOMATON_EDGES, MOST_AUTOMATON_STATES};
 use letter_space::{MOST_BITS, MOST_PREDICATES, MOST_VECTORS};
 use obligations::MOST_CHOICES;
 use program_check::Limit;
 use refutation_check::MOST_CLAUSES;
-use base_library::{NoMemory, Sequence};
 use std::alloc::Global;
 use tsl_reader::{MOST_NODES, SpecError};
 use tsl_report::{Fault, LimitName, TokenPart};

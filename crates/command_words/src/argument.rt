@@ -5,9 +5,9 @@ ghost use Rattle.clap.specs.Words.{app_of, rule_of};
 ghost use Rattle.command_words.specs.Arguments.{command_with};
 ghost use Rattle.command_words.specs.internal.Matches.{parser_for, rule_for};
 
+use base_library::NoMemory;
 use clap::builder::ValueParser;
 use clap::{Arg, ArgAction, Command};
-use base_library::NoMemory;
 use std::alloc::Global;
 
 /// What the value of an argument may be.

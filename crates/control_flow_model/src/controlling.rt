@@ -12,10 +12,10 @@ ghost use Rattle.machines.specs.MachineView.{entry_tree, controller_tree};
 ghost use Rattle.control_flow_model.specs.ProgramBits.{are_terms_chosen, ProgramHasBits};
 ghost use Rattle.control_flow_model.specs.ControllerOf.{truth_under, terms_picked, IsEntryOf, IsControllerOf};
 
+use base_library::{NoMemory, Sequence};
 use letter_space::{Controlled, Space};
 use machines::{Controller, Entry};
 use program_tree::{Node, Program};
-use base_library::{NoMemory, Sequence};
 use std::alloc::Global;
 use tsl_terms::{Probe, Term};
 

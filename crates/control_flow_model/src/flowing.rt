@@ -17,10 +17,10 @@ ghost use Rattle.control_flow_model.specs.internal.PartNodes.{AreNodesOf};
 use crate::noding::{nodes_of, words_of};
 use crate::reaching::reachable_states;
 use crate::sharing::shared_trees;
+use base_library::{NoMemory, Sequence};
 use letter_space::Space;
 use machines::Controller;
 use program_tree::{Node, Program};
-use base_library::{NoMemory, Sequence};
 use std::alloc::Global;
 use tsl_terms::{SignalLists, Window};
 

@@ -13,9 +13,9 @@ ghost use Rattle.control_flow_model.specs.internal.Parts.{part_key, part_keys};
 ghost use Rattle.control_flow_model.specs.internal.PartNodes.{key_node, HasNode};
 
 use crate::parting::Part;
+use base_library::{NoMemory, Sequence};
 use letter_space::{Controlled, Space};
 use program_tree::Node;
-use base_library::{NoMemory, Sequence};
 use std::alloc::Global;
 use tsl_terms::{Term, copy_probe, copy_term};
 

@@ -6,9 +6,9 @@ ghost use Rattle.machines.specs.MachineView.{entry_tree, controller_tree};
 ghost use Rattle.control_flow_model.specs.DecisionTree.{leaf};
 ghost use Rattle.control_flow_model.specs.internal.Parts.{part_key, part_keys, same_key, fork_key, AddsTree, AddsDecision};
 
+use base_library::NoMemory;
 use indexmap::IndexSet;
 use machines::{Controller, Entry};
-use base_library::NoMemory;
 use std::alloc::Global;
 
 /// A part of decision trees: an entry, or the test of a bit with the numbers of its branches.

@@ -7,8 +7,8 @@ ghost use Rattle.machines.specs.MachineView.{controller_tree};
 ghost use Rattle.control_flow_model.specs.Flow.{AreKept};
 ghost use Rattle.control_flow_model.specs.internal.Reaching.{AddsNext, AreFound};
 
-use machines::Controller;
 use base_library::NoMemory;
+use machines::Controller;
 use std::alloc::Global;
 
 /// Adds a state at the end of others where it is not there.

@@ -7,10 +7,10 @@ ghost use Rattle.machines.specs.Moves.{FitsSpace};
 ghost use Rattle.control_flow_model.specs.internal.Parts.{part_keys, AreShared};
 
 use crate::parting::{Part, number_of_tree};
+use base_library::NoMemory;
 use indexmap::IndexSet;
 use letter_space::Space;
 use machines::Controller;
-use base_library::NoMemory;
 use std::alloc::Global;
 
 /// The parts of the trees of states, and the number of each state's tree.

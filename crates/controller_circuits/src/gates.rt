@@ -4,9 +4,9 @@ ghost use Rattle.std.specs.Prelude.{◌≡◌, ◌⊎◌, ◌∷◌, ◌++◌, [
 ghost use Rattle.circuits.specs.GateView.{gate_tree};
 ghost use Rattle.controller_circuits.specs.internal.Joining.{AreGates, negated_literal};
 
+use base_library::NoMemory;
 use circuits::Gate;
 use indexmap::IndexSet;
-use base_library::NoMemory;
 use std::alloc::Global;
 
 /// Gates over variables that stand before them. No gate stands twice.

@@ -10,10 +10,10 @@ ghost use Rattle.controller_circuits.specs.OfController.{IsCircuitOf};
 use crate::gates::Gates;
 use crate::halving::literals_of_words;
 use crate::tables::{digits_for, letters_of, next_states, update_count};
+use base_library::{NoMemory, Sequence};
 use circuits::Circuit;
 use letter_space::Space;
 use machines::Controller;
-use base_library::{NoMemory, Sequence};
 use std::alloc::Global;
 
 /// The circuit of a controller: in each state and under each valuation its outputs are the updates that the

@@ -10,9 +10,9 @@ ghost use Rattle.machines.specs.Moves.{FitsSpace};
 ghost use Rattle.controller_circuits.specs.OfController.{AreDigitsFor};
 ghost use Rattle.controller_circuits.specs.internal.Tables.{padded_entry};
 
+use base_library::NoMemory;
 use letter_space::Space;
 use machines::{Controller, Entry};
-use base_library::NoMemory;
 use std::alloc::Global;
 
 /// How many binary digits tell so many states apart.

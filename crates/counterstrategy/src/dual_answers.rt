@@ -1,10 +1,10 @@
 //! Answers to the question for an environment.
 
 use annotation_check::Annotation;
+use base_library::Sequence;
 use clause_core::Clause;
 use machines::Environment;
 use refutation_check::Log;
-use base_library::Sequence;
 
 /// What a search for an environment came to.
 #[derive(Drop)]

@@ -15,11 +15,11 @@ use crate::dual_answers::FoundDual;
 use crate::dual_encoding::encode_dual;
 use crate::dual_error::DualError;
 use crate::environment_reading::environment_read;
+use base_library::NoMemory;
 use bounded_encoding::annotation_read;
 use cobuchi_automata::Automaton;
 use letter_space::Space;
 use sat_core::{Answer, solve};
-use base_library::NoMemory;
 use std::alloc::Global;
 
 /// Looks for an environment with so many states and an annotation within a bound, where so many

@@ -10,10 +10,10 @@ ghost use Rattle.bounded_encoding.specs.ClauseLists.{below};
 ghost use Rattle.counterstrategy.specs.DualDecoding.{bits_passing};
 ghost use Rattle.counterstrategy.specs.internal.DualReading.{truths_from, successors_from};
 
+use base_library::{NoMemory, Sequence};
 use bounded_encoding::first_true;
 use letter_space::Space;
 use machines::Environment;
-use base_library::{NoMemory, Sequence};
 use std::alloc::Global;
 
 /// A number with one more bit where a test says so.

@@ -11,11 +11,11 @@ ghost use Rattle.counterstrategy.specs.internal.DualAsking.{dual_tree, vector_le
 ghost use Rattle.counterstrategy.specs.declared.dual_asking.DualQuestion.{DualQuestion};
 
 use crate::dual_asking::{DualQuestion, test_base};
+use base_library::NoMemory;
 use bounded_encoding::{
     Builder, EncodeError, Frame, Side, add_side, push_number_if, variables_in_all,
 };
 use cobuchi_automata::Edge;
-use base_library::NoMemory;
 use std::alloc::Global;
 
 /// The letter of what a vector picks.

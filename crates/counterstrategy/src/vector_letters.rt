@@ -5,8 +5,8 @@ ghost use Rattle.letter_space.specs.SpaceView.{space_tree};
 ghost use Rattle.letter_space.specs.Vectors.{vector_count};
 ghost use Rattle.counterstrategy.specs.internal.DualAsking.{vector_letter, vector_letters};
 
-use letter_space::Space;
 use base_library::NoMemory;
+use letter_space::Space;
 use std::alloc::Global;
 
 /// The letter of what a vector picks, where no predicate term is true.

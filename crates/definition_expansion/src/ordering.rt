@@ -7,8 +7,8 @@ ghost use Rattle.definition_expansion.specs.OrderView.{HasOrderFault};
 
 use crate::definitions::ReadDefinition;
 use crate::uses::uses_of_each;
-use depth_first_search::first_on_cycle;
 use base_library::NoMemory;
+use depth_first_search::first_on_cycle;
 use std::alloc::Global;
 use tsl_terms::Names;
 

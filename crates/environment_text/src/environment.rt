@@ -16,9 +16,9 @@ ghost use Rattle.environment_text.specs.EnvironmentText.{count_line, bit_text, t
 ghost use Rattle.environment_text.specs.EnvironmentText.{truths_text, successor_text, state_line, environment_text};
 ghost use Rattle.environment_text.specs.EnvironmentText.{controlled_is_held, space_is_held};
 
+use base_library::NoMemory;
 use letter_space::{Controlled, Space};
 use machines::Environment;
-use base_library::NoMemory;
 use std::alloc::Global;
 use term_text::{put_probe, put_update};
 use tsl_terms::{Names, Probe};

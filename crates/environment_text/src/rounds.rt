@@ -9,9 +9,9 @@ ghost use Rattle.environment_text.specs.EnvironmentText.{space_is_held};
 ghost use Rattle.environment_text.specs.RoundTexts.{round_text, rounds_text, RoundIsHeld, RoundsAreHeld};
 
 use crate::environment::{put_count, put_environment};
+use base_library::NoMemory;
 use letter_space::Space;
 use machines::Round;
-use base_library::NoMemory;
 use std::alloc::Global;
 use term_text::put_window;
 use tsl_terms::{Names, Window};

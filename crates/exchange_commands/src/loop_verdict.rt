@@ -12,15 +12,15 @@ ghost use Rattle.exchange_commands.specs.Letters.{letter_of, letters_of};
 ghost use Rattle.exchange_commands.specs.Accepts.{AcceptsOutcome, LoopOutcome, IsAutomatonFault, verdict_reply};
 
 use automaton_text::{Hoa, HoaError, read_hoa};
+use base_library::NoMemory;
 use cobuchi_automata::{Automaton, MOST_AUTOMATON_EDGES, MOST_AUTOMATON_STATES};
-use letter_space::MOST_BITS;
+use command_faults::{cut_before, fault_reply};
 use lasso_text::{Letter, LetterLoop, read_letters};
+use letter_space::MOST_BITS;
 use line_formats::TextError;
 use loop_acceptance::judge_loop;
-use base_library::NoMemory;
 use std::alloc::Global;
 use tool_io::{Reply, Status};
-use command_faults::{cut_before, fault_reply};
 use tsl_report::{Fault, Head, LimitName};
 
 /// The line between an automaton and a loop of letters.

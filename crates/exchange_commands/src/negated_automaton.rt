@@ -9,14 +9,14 @@ ghost use Rattle.cobuchi_automata.specs.Refusals.{most_automaton_states, most_au
 ghost use Rattle.exchange_commands.specs.Automaton.{AutomatonOutcome, NegationOutcome, TellsAutomaton, IsNegationOf, HasAutomatonCause};
 
 use automaton_text::write_automaton;
+use base_library::NoMemory;
 use cobuchi_automata::Automaton;
+use command_faults::{fault_of, fault_of_limit, fault_reply};
 use letter_space::{Space, space_of};
 use machines::Side;
 use program_check::{CheckError, automaton_for};
-use base_library::NoMemory;
 use std::alloc::Global;
 use tool_io::{Reply, Status};
-use command_faults::{fault_of, fault_of_limit, fault_reply};
 use tsl_reader::read_spec;
 use tsl_terms::Spec;
 

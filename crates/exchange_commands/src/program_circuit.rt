@@ -6,13 +6,13 @@ ghost use Rattle.program_tree.specs.ProgramView.{program_tree};
 ghost use Rattle.program_check.specs.Verdicts.{HasFewBits, IsOverBits};
 ghost use Rattle.exchange_commands.specs.Circuit.{CircuitOutcome, TellsCircuit};
 
+use base_library::NoMemory;
+use checking_commands::{Judged, accepted_program};
 use circuit_text::write_circuit;
 use control_flow_model::controller_of;
 use controller_circuits::circuit_of;
-use checking_commands::{Judged, accepted_program};
 use letter_space::space_of;
 use program_tree::Program;
-use base_library::NoMemory;
 use std::alloc::Global;
 use tool_io::{Reply, Status};
 use tsl_terms::Spec;

@@ -12,8 +12,8 @@ ghost use Rattle.flow_program.specs.internal.EqualityKeys.{name_key, surface_key
 ghost use Rattle.flow_program.specs.internal.EqualityKeys.{is_pairwise, does_not_fall, are_apart};
 
 use crate::uses::name_bytes;
-use program_listing::{Name, SpelledPlaced, SpelledWindow, SurfaceTerm, SurfaceTermList};
 use base_library::NoMemory;
+use program_listing::{Name, SpelledPlaced, SpelledWindow, SurfaceTerm, SurfaceTermList};
 use std::alloc::Global;
 use std::collections::BTreeSet;
 

@@ -21,12 +21,12 @@ ghost use Rattle.flow_program.specs.internal.Numbering.{small, numbered, numbere
 ghost use Rattle.flow_program.specs.internal.Numbering.{numbered_equated, numbered_left, numbered_window, numbered_node, Numbered};
 
 use crate::uses::name_bytes;
+use base_library::{NoMemory, Sequence};
 use program_listing::{
     Name, ProgramSyntax, SpelledListed, SpelledNode, SpelledPlaced, SpelledUpdate, SpelledWindow,
     SurfaceTerm, SurfaceTermList,
 };
 use program_tree::{Node, Program};
-use base_library::{NoMemory, Sequence};
 use std::alloc::Global;
 use tsl_terms::{Equated, Listed, Names, Probe, Term, TermList, Window};
 

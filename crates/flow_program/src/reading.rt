@@ -13,11 +13,11 @@ ghost use Rattle.flow_program.specs.Reading.{IsReading, HasProgramCause};
 
 use crate::naming::names_after;
 use crate::numbering::numbered_program;
-use crate::rules::{name_resolution, limit_fault, line_fault, use_fault};
+use crate::rules::{limit_fault, line_fault, name_resolution, use_fault};
 use crate::uses::all_uses;
+use base_library::NoMemory;
 use program_listing::{ListingError, Name, ProgramSyntax, read_listing};
 use program_tree::Program;
-use base_library::NoMemory;
 use std::alloc::{AllocFailed, Global};
 use thiserror::Error;
 use tsl_terms::Names;

@@ -19,11 +19,11 @@ ghost use Rattle.flow_program.specs.internal.UseView.{use_view};
 use crate::equalities::{are_equalities, right_fits};
 use crate::reading::ProgramError;
 use crate::uses::{SpelledUse, name_bytes};
+use base_library::NoMemory;
 use program_listing::{
     Name, ProgramSyntax, SpelledListed, SpelledNode, SpelledUpdate, SpelledWindow,
 };
 use program_tree::{LONGEST_WINDOW, MOST_NODES, MOST_STATES, MOST_WINDOWS};
-use base_library::NoMemory;
 use std::alloc::Global;
 use tsl_terms::{NameKind, Names, Quality, same_kind};
 

@@ -17,11 +17,11 @@ ghost use Rattle.flow_program.specs.Uses.{declared_uses, uses_of, first_state};
 ghost use Rattle.flow_program.specs.internal.UseView.{use_view};
 
 use crate::rules::{first_node, first_window};
+use base_library::NoMemory;
 use program_listing::{
     Name, ProgramSyntax, SpelledListed, SpelledNode, SpelledPlaced, SpelledUpdate, SpelledWindow,
     SurfaceTerm, SurfaceTermList,
 };
-use base_library::NoMemory;
 use std::alloc::Global;
 use tsl_terms::{NameKind, NameUse};
 

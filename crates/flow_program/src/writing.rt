@@ -13,8 +13,8 @@ ghost use Rattle.program_tree.specs.Writable.{signal_fits, term_is_writable, pro
 ghost use Rattle.program_tree.specs.Writable.{IsWritable};
 ghost use Rattle.flow_program.specs.ProgramText.{ProgramText};
 
-use program_tree::{Node, Program};
 use base_library::NoMemory;
+use program_tree::{Node, Program};
 use std::alloc::Global;
 use term_text::{put_name, put_probe, put_update, put_window};
 use tsl_terms::{Names, Probe, Term, Window};

@@ -14,8 +14,8 @@ ghost use Rattle.formula_text.specs.FormulaText.{constant_text, unary_text, bina
 
 mod laws;
 
-pub use laws::whole_formulas_can_be_written;
 use base_library::NoMemory;
+pub use laws::whole_formulas_can_be_written;
 use std::alloc::Global;
 use term_text::{put_probe, put_update};
 use tsl_terms::{

@@ -15,11 +15,11 @@ ghost use Rattle.full_bound.specs.internal.PairTable.{most_controller_states};
 use crate::letter_loop::LetterLoop;
 use crate::pair_steps::steps_of_pairs;
 use crate::turning::{TurnFound, turn_in};
+use base_library::{NoMemory, Sequence};
 use cobuchi_automata::Automaton;
 use letter_space::Space;
 use ltl_formula::Ltl;
 use machines::Controller;
-use base_library::{NoMemory, Sequence};
 use std::alloc::Global;
 
 /// A letter loop of the controller on which the formula holds, whose automaton this is. There is none

@@ -11,10 +11,10 @@ ghost use Rattle.full_bound.specs.internal.PairTable.{listed_step, steps_of_stat
 ghost use Rattle.full_bound.specs.internal.Search.{steps_from};
 
 use crate::search::Step;
+use base_library::NoMemory;
 use cobuchi_automata::{Automaton, Edge};
 use letter_space::Space;
 use machines::{Controller, Move};
-use base_library::NoMemory;
 use std::alloc::Global;
 
 /// How many states a controller may have whose pairs are searched.

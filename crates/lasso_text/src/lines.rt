@@ -4,8 +4,8 @@ ghost use Rattle.std.specs.Prelude.{◌≡◌, ◌<◌, ◌^◌, option_map, Som
 ghost use Rattle.line_formats.specs.Format.{read};
 ghost use Rattle.lasso_text.specs.LetterText.{Numbers, leaves, spaced, numbers, back_line, line_value, as_members, rise};
 
-use line_formats::{first_number, past};
 use base_library::NoMemory;
+use line_formats::{first_number, past};
 use std::alloc::Global;
 
 /// The numbers that stand to the end of a line, each after a space.

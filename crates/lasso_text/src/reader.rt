@@ -8,8 +8,8 @@ ghost use Rattle.lasso_text.specs.LoopView.{loop_tree, reader_state};
 
 use crate::letter_loop::{Letter, LetterLoop};
 use crate::lines::{back_number, rise, spaced_numbers};
-use line_formats::{LastLine, LineReader, TextError, past, read_text};
 use base_library::{NoMemory, Sequence};
+use line_formats::{LastLine, LineReader, TextError, past, read_text};
 use std::alloc::Global;
 
 /// What was read so far.

@@ -6,11 +6,11 @@ ghost use Rattle.machines.specs.MachineView.{environment_tree};
 ghost use Rattle.machines.specs.Moves.{EnvironmentFits};
 
 use annotation_check::annotate_environment;
+use base_library::Sequence;
 use cobuchi_automata::Automaton;
 use letter_space::Space;
 use logic_values::{no_bits, still_environment};
 use machines::Environment;
-use base_library::Sequence;
 use std::test::Fail;
 
 /// Whether a number is below a bound.

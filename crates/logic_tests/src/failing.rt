@@ -6,12 +6,12 @@ ghost use Rattle.letter_space.specs.SpaceView.{space_tree};
 ghost use Rattle.machines.specs.MachineView.{controller_tree};
 ghost use Rattle.machines.specs.Moves.{FitsSpace};
 
+use base_library::{NoMemory, Sequence};
 use cobuchi_automata::build;
 use full_bound::{LetterLoop, failing_loop};
 use letter_space::{Controlled, Space};
 use logic_values::space_of_spec;
 use machines::{Controller, Entry};
-use base_library::{NoMemory, Sequence};
 use spec_values::spec_of;
 use std::alloc::Global;
 use std::process::Abort;

@@ -1,8 +1,8 @@
 //! The letter form of a formula and that of its negation.
 
+use base_library::NoMemory;
 use logic_values::{always, either, finally, space_of_spec};
 use ltl_formula::{Ltl, negate};
-use base_library::NoMemory;
 use spec_values::spec_of;
 use std::alloc::Global;
 use std::test::Fail;

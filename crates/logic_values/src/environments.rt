@@ -3,8 +3,8 @@
 ghost use Rattle.std.specs.Prelude.{◌≡◌, ◌∷◌, [], IfOk};
 ghost use Rattle.machines.specs.MachineView.{environment_tree};
 
-use machines::Environment;
 use base_library::{NoMemory, Sequence};
+use machines::Environment;
 use std::alloc::Global;
 
 /// The one environment of one state over no bits.

@@ -1,7 +1,7 @@
 //! Formulas over bits.
 
-use ltl_formula::{Ltl, LtlList};
 use base_library::NoMemory;
+use ltl_formula::{Ltl, LtlList};
 use std::alloc::Global;
 
 /// The formula holds at the next position.

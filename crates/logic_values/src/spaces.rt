@@ -3,8 +3,8 @@
 ghost use Rattle.std.specs.Prelude.{◌≡◌, []};
 ghost use Rattle.letter_space.specs.SpaceView.{space_tree};
 
-use letter_space::{Space, space_of};
 use base_library::Sequence;
+use letter_space::{Space, space_of};
 use std::alloc::Global;
 use std::test::Fail;
 use tsl_terms::Spec;

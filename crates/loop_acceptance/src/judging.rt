@@ -11,8 +11,8 @@ use crate::pairs::Pairing;
 use crate::product::Product;
 use crate::rows::few_edges_by_state;
 use crate::search::has_turn;
-use cobuchi_automata::Automaton;
 use base_library::NoMemory;
+use cobuchi_automata::Automaton;
 use std::alloc::Global;
 
 /// How many pairs of a letter and a state are searched: a node has 32 bits, so that an open one takes 8 bytes.

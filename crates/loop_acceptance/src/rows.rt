@@ -4,8 +4,8 @@ ghost use Rattle.std.specs.Prelude.{◌≡◌, ◌<◌, ◌++◌, ◌∷◌, ℕ
 ghost use Rattle.std.specs.List.{AllByRecursion, list_all};
 ghost use Rattle.loop_acceptance.specs.internal.Product.{row_lists, is_short, AreEdgeRows};
 
-use cobuchi_automata::{Automaton, Edge};
 use base_library::NoMemory;
+use cobuchi_automata::{Automaton, Edge};
 use std::alloc::Global;
 
 /// The edges from each state of an automaton.

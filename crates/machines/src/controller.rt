@@ -4,8 +4,8 @@ ghost use Rattle.std.specs.Prelude.{◌≡◌, ◌*◌, ◌<◌, ◌≤◌, map,
 ghost use Rattle.machines.specs.MachineTree.{NameStates};
 
 use crate::moves::Move;
-use letter_space::Space;
 use base_library::{NoMemory, Sequence};
+use letter_space::Space;
 use std::alloc::Global;
 
 /// What a controller does in a state under a valuation.

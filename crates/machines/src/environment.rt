@@ -4,8 +4,8 @@ ghost use Rattle.std.specs.Prelude.{◌≡◌, ◌*◌, ◌<◌, ◌≤◌, leng
 ghost use Rattle.machines.specs.MachineTree.{NameStates};
 
 use crate::moves::Move;
-use letter_space::Space;
 use base_library::{NoMemory, Sequence};
+use letter_space::Space;
 use std::alloc::Global;
 
 /// A table that gives for each state what is true there, and for each vector of choices the state to go

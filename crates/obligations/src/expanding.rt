@@ -14,8 +14,8 @@ use crate::numbered::NumberedChoice;
 use crate::products::{product, product_of, sum};
 use crate::searching::find;
 use crate::step_error::StepError;
-use ltl_formula::{Ltl, LtlList};
 use base_library::NoMemory;
+use ltl_formula::{Ltl, LtlList};
 use std::alloc::Global;
 
 /// How many bits a letter has.

@@ -18,8 +18,8 @@ use crate::expanding::{expand, literal};
 use crate::numbered::NumberedChoice;
 use crate::products::product;
 use crate::step_error::StepError;
-use ltl_formula::Ltl;
 use base_library::NoMemory;
+use ltl_formula::Ltl;
 use std::alloc::Global;
 
 /// A place for the expansion of each of some formulas, with none made yet.

@@ -8,8 +8,8 @@ ghost use Rattle.obligations.specs.Numbers.{lent_trees};
 ghost use Rattle.obligations.specs.Obligations.{obligations, obligations_of_all, reachable, closure_of};
 
 use crate::searching::find;
-use ltl_formula::{Ltl, LtlList};
 use base_library::NoMemory;
+use ltl_formula::{Ltl, LtlList};
 use std::alloc::Global;
 
 /// Puts a formula in its place among rising ones, unless it is there.

@@ -10,8 +10,8 @@ ghost use Rattle.obligations.specs.Numbers.{choice_key, choice_keys};
 
 use crate::numbered::NumberedChoice;
 use crate::rounds::{are_rising, without_larger_by_rounds};
-use indexmap::IndexSet;
 use base_library::NoMemory;
+use indexmap::IndexSet;
 use std::alloc::Global;
 
 /// The choices of a list, equal ones once, in the order in which they first appear.

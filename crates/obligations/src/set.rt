@@ -7,8 +7,8 @@ ghost use Rattle.ltl_formula.specs.Increasing.{IsIncreasing};
 ghost use Rattle.obligations.specs.Numbers.{lent_trees};
 ghost use Rattle.obligations.specs.Named.{formula_named};
 
-use ltl_formula::{Ltl, copy_ltl};
 use base_library::NoMemory;
+use ltl_formula::{Ltl, copy_ltl};
 use std::alloc::Global;
 use std::marker::Model;
 

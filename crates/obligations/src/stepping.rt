@@ -19,8 +19,8 @@ use crate::numbered::NumberedChoice;
 use crate::products::product;
 use crate::set::{Set, set_named};
 use crate::step_error::StepError;
-use ltl_formula::{Cube, Ltl};
 use base_library::NoMemory;
+use ltl_formula::{Cube, Ltl};
 use std::alloc::Global;
 
 /// What one step asks of the letter, and what it leaves for the next one.

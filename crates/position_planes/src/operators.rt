@@ -8,8 +8,8 @@ ghost use Rattle.position_planes.specs.Positions.{IsPlaneOf, loop_of, words_of};
 
 use crate::carrying::{carried_to, carry_into, shift_into};
 use crate::positions::{everywhere, is_set};
-use lane_planes::{and_into, equal_into, not_into, or_into};
 use base_library::NoMemory;
+use lane_planes::{and_into, equal_into, not_into, or_into};
 use std::alloc::Global;
 
 /// Where it does not hold.

@@ -1,8 +1,8 @@
 //! What is said of a program, and why nothing is.
 
+use base_library::NoMemory;
 use cobuchi_automata::BuildError;
 use letter_space::SpaceError;
-use base_library::NoMemory;
 use std::alloc::AllocFailed;
 use thiserror::Error;
 

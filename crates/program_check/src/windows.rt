@@ -11,9 +11,9 @@ ghost use Rattle.letter_space.specs.SpaceView.{space_tree};
 ghost use Rattle.letter_space.specs.Bits.{bit_of_probe, bit_of_update};
 ghost use Rattle.program_check.specs.Verdicts.{window_has_bits, AreSound, IsUnsoundAt};
 
+use base_library::NoMemory;
 use letter_space::Space;
 use program_tree::Program;
-use base_library::NoMemory;
 use std::alloc::Global;
 use term_congruence::congruent;
 use tsl_terms::{Equated, Listed, Probe, Spec, Window, equality_of};

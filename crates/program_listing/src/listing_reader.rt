@@ -14,8 +14,8 @@ ghost use Rattle.program_listing.specs.internal.LineOrder.{reader_state, Declare
 use crate::line::{Line, read_line};
 use crate::listing::{ListingError, Name, ProgramSyntax};
 use crate::rest::{LineError, Rest};
-use line_formats::{LastLine, LineReader, TextError, read_text};
 use base_library::NoMemory;
+use line_formats::{LastLine, LineReader, TextError, read_text};
 use std::alloc::Global;
 use tsl_terms::{NameKind, Names};
 

@@ -3,12 +3,12 @@
 ghost use Rattle.std.specs.Prelude.{◌≡◌};
 ghost use Rattle.refinement_loop.specs.Refusals.{refused_encoding, refused_dual, refused_branches};
 
+use base_library::{NoMemory, Sequence};
 use bounded_encoding::EncodeError;
 use branch_finder::BranchError;
 use counterstrategy::DualError;
 use machines::Round;
 use program_check::{CheckError, Limit};
-use base_library::{NoMemory, Sequence};
 use std::alloc::AllocFailed;
 use thiserror::Error;
 

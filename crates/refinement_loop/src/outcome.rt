@@ -4,13 +4,13 @@ ghost use Rattle.std.specs.Prelude.{◌≡◌, ◌≤◌};
 ghost use Rattle.refinement_loop.specs.Questions.{bound_under};
 ghost use Rattle.refinement_loop.specs.Outcomes.{search_with};
 
+use base_library::Sequence;
 use bounded_encoding::Found;
 use clause_core::Clause;
 use cobuchi_automata::Automaton;
 use letter_space::Space;
 use machines::{Environment, Round, Side};
 use program_tree::Program;
-use base_library::Sequence;
 
 /// The largest number that the annotation of a controller may have.
 #[derive(Clone, Copy, Debug, PartialEq, Eq)]

@@ -17,10 +17,10 @@ ghost use Rattle.refinement_loop.specs.internal.Turns.{refused_after};
 use crate::errors::RefineError;
 use crate::outcome::{Bound, Outcome, Search, Searched, Sizes};
 use crate::turning::{Turn, Turned, next_turn};
+use base_library::Sequence;
 use letter_space::{Space, space_of};
 use machines::Round;
 use program_check::CheckError;
-use base_library::Sequence;
 use std::alloc::Global;
 use tsl_terms::Spec;
 

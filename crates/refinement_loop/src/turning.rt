@@ -22,6 +22,7 @@ ghost use Rattle.refinement_loop.specs.internal.Turns.{IsTurn, HasTurnCause};
 use crate::asking::{ControllerAnswer, EnvironmentAnswer, controller_answer, environment_answer};
 use crate::errors::refused_branches;
 use crate::outcome::{Reason, Search};
+use base_library::{NoMemory, Sequence};
 use bounded_encoding::Found;
 use branch_finder::find_window;
 use clause_core::Clause;
@@ -32,7 +33,6 @@ use letter_space::Space;
 use machines::{Controller, Environment, Round, Side};
 use program_check::CheckError;
 use program_tree::Program;
-use base_library::{NoMemory, Sequence};
 use std::alloc::Global;
 use tsl_terms::{Spec, Window, copy_window, equality_of, signals};
 

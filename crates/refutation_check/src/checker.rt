@@ -10,8 +10,8 @@ ghost use Rattle.refutation_check.specs.internal.Accepted.{numbered, known_after
 
 use crate::marks::{Look, Marks};
 use crate::steps::{Log, Step};
-use clause_core::{Clause, Cnf, Literal, is_tautology};
 use base_library::NoMemory;
+use clause_core::{Clause, Cnf, Literal, is_tautology};
 use std::alloc::Global;
 use thiserror::Error;
 

@@ -11,8 +11,8 @@ ghost use Rattle.refutation_check.specs.internal.Reading.{with_literals, with_hi
 use crate::lines::is_comment;
 use crate::numbers::{ends_list, hint_in, literal_in};
 use crate::steps::{Log, Step};
-use clause_core::{Literal, clause_of};
 use base_library::{NoMemory, Sequence};
+use clause_core::{Literal, clause_of};
 use std::alloc::{AllocFailed, Global};
 use thiserror::Error;
 use tsl_text::{first_line, first_word, lines_of, number_in};

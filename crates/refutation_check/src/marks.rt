@@ -7,8 +7,8 @@ ghost use Rattle.clause_core.specs.Propagation.{not_false};
 ghost use Rattle.refutation_check.specs.Checking.{effect_of_open};
 ghost use Rattle.refutation_check.specs.internal.Marks.{with_true, effect_of};
 
-use clause_core::{Clause, Literal};
 use base_library::NoMemory;
+use clause_core::{Clause, Literal};
 use std::alloc::Global;
 use std::marker::Model;
 

@@ -1,7 +1,7 @@
 //! Logs of steps that refute a formula.
 
-use clause_core::Clause;
 use base_library::Sequence;
+use clause_core::Clause;
 
 /// A step: a clause that follows from those before it by unit propagation.
 #[derive(Drop)]

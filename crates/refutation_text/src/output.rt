@@ -5,9 +5,9 @@ ghost use Rattle.clause_core.specs.Clauses.{IsIncreasing};
 ghost use Rattle.refutation_text.specs.Written.{literal_word, ended_list, clause_line, step_line, header_line, cnf_text, log_text, IsClauseOver};
 ghost use Rattle.refutation_text.specs.Written.{refutation_text};
 
+use base_library::NoMemory;
 use clause_core::{Cnf, Literal};
 use refutation_check::{Log, Step};
-use base_library::NoMemory;
 use tsl_text::{put_bytes, put_number};
 
 /// Appends the text of a formula, the line `lrat` and the text of a log.

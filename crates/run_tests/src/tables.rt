@@ -5,8 +5,8 @@ ghost use Rattle.tsl_terms.specs.declared.names.NameKind.TheVariants.{Signal};
 ghost use Rattle.tsl_terms.specs.Name.{is_name};
 ghost use Rattle.tsl_meaning.specs.Interpretation.{IsInterpretation, IsEqualityOf};
 
-use interp_core::Judge;
 use base_library::Sequence;
+use interp_core::Judge;
 use std::alloc::Global;
 use std::process::Abort;
 use std::test::Fail;

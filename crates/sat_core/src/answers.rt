@@ -1,8 +1,8 @@
 //! The answers of the solver.
 
+use base_library::Sequence;
 use clause_core::{Assignment, Clause};
 use refutation_check::Log;
-use base_library::Sequence;
 
 /// What a search came to.
 #[derive(Drop)]

@@ -11,13 +11,13 @@ ghost use Rattle.sat_core.specs.internal.Ends.{IsAnswerTo};
 ghost use Rattle.sat_core.specs.internal.Searches.{task_of, budget_left, IsSearching, HasSpent};
 
 use crate::answers::Answer;
+use base_library::{NoMemory, Sequence};
 use clause_core::{Assignment, Clause, Cnf};
 use clause_learning::{
     Analysis, Decisions, Kept, ProofLog, Reductions, Restarts, Units, assignment_of, learn, refute,
 };
 use refutation_check::Log;
 use sat_trail::Trail;
-use base_library::{NoMemory, Sequence};
 use std::alloc::Global;
 
 /// A search over a formula, between its steps.

@@ -7,8 +7,8 @@ ghost use Rattle.sat_core.specs.internal.Ends.{IsSearchAnswer};
 
 use crate::answers::Answer;
 use crate::search::Search;
-use clause_core::Cnf;
 use base_library::NoMemory;
+use clause_core::Cnf;
 use std::alloc::Global;
 
 /// Whether some assignment meets all clauses, where so many clauses may be learnt, the empty one not counted. `Spent`

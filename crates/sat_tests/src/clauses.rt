@@ -1,8 +1,8 @@
 //! Clauses and assignments.
 
+use base_library::Sequence;
 use clause_core::{Assignment, contains, is_tautology, meets};
 use logic_values::clause;
-use base_library::Sequence;
 use std::test::Fail;
 
 /// Clauses of two literals, and whether they are met where the variables 1 and 2 are false.

@@ -9,8 +9,8 @@ ghost use Rattle.sat_trail.specs.internal.Tables.{MayLearn};
 
 use crate::entries::Entry;
 use crate::trail_clauses::TrailClauses;
-use clause_core::{Clause, Cnf, Literal};
 use base_library::NoMemory;
+use clause_core::{Clause, Cnf, Literal};
 use std::alloc::Global;
 use std::marker::Model;
 

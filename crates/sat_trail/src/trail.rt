@@ -9,8 +9,8 @@ ghost use Rattle.sat_trail.specs.States.{IsSound, started, decided, with_clause,
 use crate::errors::TrailError;
 use crate::stack::Stack;
 use crate::watches::Watches;
-use clause_core::{Clause, Cnf, Literal};
 use base_library::NoMemory;
+use clause_core::{Clause, Cnf, Literal};
 use std::alloc::Global;
 use std::marker::Model;
 

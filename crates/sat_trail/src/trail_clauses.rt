@@ -3,8 +3,8 @@
 ghost use Rattle.std.specs.Prelude.{◌≡◌, ◌+◌, ◌<◌, ◌^◌, ◌++◌, ◌∷◌, [], length, Some, slice_get, cond, is_ok};
 ghost use Rattle.clause_core.specs.Clauses.{IsIncreasing};
 
-use clause_core::{Clause, ClauseList, Literal};
 use base_library::NoMemory;
+use clause_core::{Clause, ClauseList, Literal};
 use std::marker::Model;
 
 /// The clauses of a formula, which are borrowed, and behind them the learnt ones. A contract sees them as

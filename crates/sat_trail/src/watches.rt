@@ -15,8 +15,8 @@ ghost use Rattle.sat_trail.specs.internal.Watching.{LeavesSome, LooksAtOne, MayP
 ghost use Rattle.sat_trail.specs.internal.Watching.{IsVisiting, Visits, IsUnitBy};
 
 use crate::stack::Stack;
-use clause_core::{ClauseList, Literal};
 use base_library::NoMemory;
+use clause_core::{ClauseList, Literal};
 use std::alloc::Global;
 use std::marker::Model;
 

@@ -7,11 +7,11 @@ ghost use Rattle.letter_space.specs.Vectors.{vector_count};
 ghost use Rattle.machines.specs.MachineView.{environment_tree};
 ghost use Rattle.machines.specs.Moves.{EnvironmentFits};
 
+use base_library::{NoMemory, Sequence};
 use branch_finder::{BranchError, find_window};
 use letter_space::Space;
 use logic_values::space_of_spec;
 use machines::Environment;
-use base_library::{NoMemory, Sequence};
 use spec_values::spec_of;
 use std::alloc::Global;
 use std::fmt::Write;

@@ -19,6 +19,7 @@ ghost use Rattle.environment_text.specs.RoundTexts.{RoundsAreHeld};
 ghost use Rattle.search_text.specs.SearchTexts.{none_text, reason_text, reason_tree, asked_literals, cube_literals, edge_line};
 ghost use Rattle.search_text.specs.SearchTexts.{learnt_line, sizes_line, side_text, spent_text, ReasonFits};
 
+use base_library::NoMemory;
 use clause_core::{Clause, Literal};
 use cobuchi_automata::{Automaton, Edge};
 use environment_text::{bit_text, put_count, put_environment, put_rounds};
@@ -26,7 +27,6 @@ use letter_space::Space;
 use ltl_formula::Cube;
 use machines::{Environment, Round, Side};
 use refutation_text::{put_clause, put_literal};
-use base_library::NoMemory;
 use std::alloc::Global;
 use tsl_terms::Names;
 use tsl_text::{put_bytes, put_number};

@@ -14,12 +14,12 @@ ghost use Rattle.solve_tool.specs.internal.Solutions.{IsSatisfiableReply, IsUnsa
 use crate::refusal::Refusal;
 use crate::request::Request;
 use crate::values::satisfiable_text;
+use base_library::NoMemory;
 use clause_core::{ClauseList, Cnf, Literal, have_pair};
 use cnf_reader::{CnfError, CnfReader};
 use refutation_check::{Log, MOST_CLAUSES, MOST_VARIABLES};
 use refutation_text::put_refutation;
 use sat_core::{Answer, solve};
-use base_library::NoMemory;
 use std::alloc::Global;
 use tool_io::{Reply, Status};
 

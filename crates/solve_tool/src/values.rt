@@ -4,9 +4,9 @@ ghost use Rattle.std.specs.Prelude.{◌≡◌, ◌++◌, ◌<◌, ◌≤◌, ◌
 ghost use Rattle.refutation_text.specs.Written.{literal_word};
 ghost use Rattle.solve_tool.specs.Values.{line_break, satisfiable_text};
 
+use base_library::NoMemory;
 use clause_core::Literal;
 use refutation_text::put_literal;
-use base_library::NoMemory;
 use std::alloc::Global;
 use tsl_text::put_bytes;
 

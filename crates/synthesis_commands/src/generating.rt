@@ -10,15 +10,15 @@ ghost use Rattle.synthesis_commands.specs.Gen.{GenOutcome, SummaryOutcome, summa
 ghost use Rattle.synthesis_commands.specs.internal.GeneratedSizes.{generated_sizes};
 
 use crate::synthesis::spent;
+use base_library::NoMemory;
+use command_faults::{fault_of_limit, fault_reply};
 use generator::{gen_text, summary_text};
 use letter_space::{Space, SpaceError, space_of};
 use machines::Side;
 use program_check::Limit;
 use refinement_loop::{Outcome, RefineError, Sizes, refine};
-use base_library::NoMemory;
 use std::alloc::Global;
 use tool_io::{Reply, Status};
-use command_faults::{fault_of_limit, fault_reply};
 use tsl_reader::read_spec;
 use tsl_terms::Spec;
 

@@ -31,8 +31,8 @@ ghost use Rattle.table_interp.specs.internal.Located.{located_tables, IsLocated,
 
 use crate::tables::Tables;
 use crate::{MOST_ENTRIES, MOST_VALUES, TableError};
-use entry_names::{entry_for, entry_places, is_symbol_number, needed};
 use base_library::{NoMemory, Sequence};
+use entry_names::{entry_for, entry_places, is_symbol_number, needed};
 use std::alloc::{AllocError, Global};
 use table_syntax::{Entry, TablesText};
 use tsl_terms::{NameKind, Names, equality_of};

@@ -27,8 +27,8 @@ ghost use Rattle.table_interp.specs.internal.Ordered.{columns_of, HavePlaces, Ar
 
 use crate::entries::first_from;
 use crate::{InputError, MOST_ROWS};
-use entry_names::{entry_places, place_of};
 use base_library::{NoMemory, Sequence};
+use entry_names::{entry_places, place_of};
 use std::alloc::{AllocError, Global};
 use table_syntax::InputsText;
 use tsl_meaning::InputLoop;

@@ -20,10 +20,10 @@ ghost use Rattle.tsl_meaning.specs.Interpretation.{IsInterpretation, IsInputLoop
 ghost use Rattle.table_interp.specs.Tables.{SpellsTables, HasTableCause, IsRefusedAsTables};
 ghost use Rattle.table_interp.specs.Inputs.{SpellsInputs, HasInputCause, IsRefusedAsInputs};
 
+use base_library::NoMemory;
 use entries::tables_from;
 use entry_names::EntryFault;
 use inputs::rows_from;
-use base_library::NoMemory;
 use std::alloc::{AllocFailed, Global};
 use table_syntax::{TextFault, inputs_of, tables_of};
 use thiserror::Error;

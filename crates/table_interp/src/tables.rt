@@ -5,9 +5,9 @@ ghost use Rattle.base_library.specs.Numbers.{IsDistinct};
 ghost use Rattle.tsl_meaning.specs.Interpretation.{are_values, place_of_arguments, entry_at, same_two};
 
 use crate::MOST_VALUES;
+use base_library::{NoMemory, Sequence};
 use indexmap::IndexMap;
 use interp_core::{Algebra, Judge};
-use base_library::{NoMemory, Sequence};
 use std::alloc::Global;
 use std::marker::Model;
 

@@ -8,9 +8,9 @@ ghost use Rattle.program_tree.specs.ProgramView.{program_tree};
 ghost use Rattle.program_tree.specs.Walk.{walk};
 ghost use Rattle.interp_core.specs.LeafValue.{leaf_value};
 
+use base_library::NoMemory;
 use interp_core::{Algebra, Judge, Leaves, push_value, test_term};
 use program_tree::{Node, Program};
-use base_library::NoMemory;
 use std::alloc::Global;
 use tsl_terms::Term;
 

@@ -16,9 +16,9 @@ use crate::recording::first_positions;
 use crate::standing::{
     Standing, advance, copied, copy_standing, first_standing, same_configuration,
 };
+use base_library::NoMemory;
 use interp_core::Judge;
 use program_tree::Program;
-use base_library::NoMemory;
 use std::alloc::Global;
 use tsl_meaning::{InputLoop, LoopRun};
 

@@ -12,9 +12,9 @@ ghost use Rattle.table_runner.specs.Standings.{shown, StandsAt};
 
 use crate::acting::{action_in, copies};
 use crate::standing::{Standing, act, cells_of, first_standing, row_of};
+use base_library::{NoMemory, Sequence};
 use interp_core::Judge;
 use program_tree::Program;
-use base_library::{NoMemory, Sequence};
 use std::alloc::Global;
 use tsl_meaning::{InputLoop, Position};
 use tsl_terms::{Term, copy_term};

@@ -6,9 +6,9 @@ ghost use Rattle.table_runner.specs.Running.{rows_seen, CanRun};
 ghost use Rattle.table_runner.specs.Standings.{shown, StandsAt};
 
 use crate::standing::{Standing, advance, cells_of, first_standing};
+use base_library::NoMemory;
 use interp_core::Judge;
 use program_tree::Program;
-use base_library::NoMemory;
 use std::alloc::Global;
 use tsl_meaning::InputLoop;
 

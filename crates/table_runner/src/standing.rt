@@ -10,9 +10,9 @@ ghost use Rattle.tsl_meaning.specs.Run.{action_in as action_of};
 
 use crate::acting::{Action, action_in, copies, first_values, next_values};
 use crate::rows::{next_place, row_at};
+use base_library::{NoMemory, Sequence};
 use interp_core::{Algebra, Judge, Leaves};
 use program_tree::Program;
-use base_library::{NoMemory, Sequence};
 use std::alloc::Global;
 use tsl_meaning::InputLoop;
 

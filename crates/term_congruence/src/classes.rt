@@ -18,8 +18,8 @@ use crate::closing::{LabelPair, classes_of};
 use crate::congruence::labels_at;
 use crate::labelling::{labels_of_terms, labels_of_updates};
 use crate::shapes::{Shape, classes_at};
-use indexmap::IndexSet;
 use base_library::{NoMemory, Sequence};
+use indexmap::IndexSet;
 use std::alloc::Global;
 use tsl_terms::{Equated, Listed, Term, TermList};
 

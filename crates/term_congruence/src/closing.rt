@@ -7,8 +7,8 @@ ghost use Rattle.term_congruence.specs.internal.ShapeView.{shape_trees};
 ghost use Rattle.term_congruence.specs.internal.PairView.{pair_tree};
 
 use crate::shapes::{Shape, place_of_shape, shape_by_classes};
-use indexmap::IndexSet;
 use base_library::NoMemory;
+use indexmap::IndexSet;
 use std::alloc::Global;
 
 /// Two labels.

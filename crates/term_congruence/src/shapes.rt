@@ -6,8 +6,8 @@ ghost use Rattle.term_congruence.specs.internal.Closing.{by_classes, HasPartsBel
 ghost use Rattle.term_congruence.specs.internal.Shapes.{Stands, KeepsShapes};
 ghost use Rattle.term_congruence.specs.internal.ShapeView.{shape_tree, shape_trees};
 
-use indexmap::IndexSet;
 use base_library::NoMemory;
+use indexmap::IndexSet;
 use std::alloc::Global;
 
 /// What a label stands for.

@@ -15,8 +15,8 @@ ghost use Rattle.term_text.specs.TermText.{name_text, argument_text, applied_tex
 mod laws;
 mod window;
 
-pub use laws::one_spelling;
 use base_library::NoMemory;
+pub use laws::one_spelling;
 use tsl_terms::{Names, Probe, Term, TermList};
 use tsl_text::put_bytes;
 pub use window::put_window;

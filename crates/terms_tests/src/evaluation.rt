@@ -9,8 +9,8 @@ ghost use Rattle.tsl_terms.specs.FreeTree.{leaf_at};
 ghost use Rattle.interp_core.specs.FreeView.{free_tree};
 ghost use Rattle.interp_core.specs.internal.LeavesWithin.{leaves_within};
 
-use interp_core::{Algebra, FreeTerm, Leaves, TermAlgebra, Wheel, evaluate, image};
 use base_library::{NoMemory, Sequence};
+use interp_core::{Algebra, FreeTerm, Leaves, TermAlgebra, Wheel, evaluate, image};
 use std::alloc::Global;
 use std::test::Fail;
 use tsl_terms::{Term, TermList};

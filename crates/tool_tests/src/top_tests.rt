@@ -3,8 +3,8 @@
 use crate::devices::{
     COPIED, COPY, Case, Repeated, assert_each, assert_repeated, assert_run, repeated,
 };
-use synthesis_commands::whole_text;
 use std::test::Fail;
+use synthesis_commands::whole_text;
 use tsl_reader::read_spec;
 
 /// The program without signals.

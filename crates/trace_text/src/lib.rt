@@ -11,8 +11,8 @@ ghost use Rattle.tsl_meaning.specs.RunTree.{position_tree, run_tree};
 ghost use Rattle.trace_text.specs.TraceText.{place_line, values_text, position_text, positions_text, loop_text, verdict_word};
 ghost use Rattle.trace_text.specs.TraceText.{subject_text, verdict_text, verdicts_text, trace_text, position_is_held, RunIsHeld};
 
-use flow_program::put_updates;
 use base_library::NoMemory;
+use flow_program::put_updates;
 use std::alloc::Global;
 use term_text::put_name;
 use tsl_meaning::{LoopRun, Position};

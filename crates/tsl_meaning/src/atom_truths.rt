@@ -15,9 +15,9 @@ ghost use Rattle.tsl_meaning.specs.internal.Columns.{HaveColumns, HaveValues};
 
 use crate::columns::{RunValues, only_column};
 use crate::run::{LoopRun, Position};
+use base_library::NoMemory;
 use interp_core::{Algebra, Judge, Leaves, push_values};
 use position_planes::plane_of;
-use base_library::NoMemory;
 use std::alloc::Global;
 use tsl_terms::{AtomRef, Probe, Term, TermList, same_term};
 

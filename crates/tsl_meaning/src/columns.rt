@@ -10,8 +10,8 @@ ghost use Rattle.tsl_meaning.specs.internal.Columns.{AreOf, HaveColumns, HaveVal
 
 use crate::leaves::leaves_of;
 use crate::run::LoopRun;
-use interp_core::{Judge, Leaves};
 use base_library::NoMemory;
+use interp_core::{Judge, Leaves};
 use std::alloc::Global;
 use tsl_terms::{Term, TermList};
 

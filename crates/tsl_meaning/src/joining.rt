@@ -6,11 +6,11 @@ ghost use Rattle.tsl_meaning.specs.Lasso.{unary_at, binary_at};
 ghost use Rattle.tsl_meaning.specs.internal.Members.{joined, of_none};
 
 use crate::run::LoopRun;
+use base_library::NoMemory;
 use position_planes::{
     both, either, everywhere, finally, globally, implied, negated, next, nowhere, release, same,
     until, weak_until,
 };
-use base_library::NoMemory;
 use std::alloc::Global;
 use tsl_terms::{BinaryOperator, ManyOperator, UnaryOperator};
 

@@ -15,9 +15,9 @@ use crate::columns::{RunValues, values_of};
 use crate::joining::{binary_plane, constant_plane, joined_plane, of_none, unary_plane};
 use crate::run::LoopRun;
 use crate::shared_atoms::{SharedAtoms, plane_of_atom, shared_atoms};
+use base_library::NoMemory;
 use interp_core::Judge;
 use position_planes::holds_at;
-use base_library::NoMemory;
 use std::alloc::Global;
 use tsl_terms::{Formula, FormulaList, FormulaParts, ManyOperator};
 

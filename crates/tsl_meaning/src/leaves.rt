@@ -6,8 +6,8 @@ ghost use Rattle.tsl_meaning.specs.RunTree.{position_tree, run_tree};
 ghost use Rattle.tsl_meaning.specs.RunLasso.{value_at};
 
 use crate::run::{LoopRun, Position};
-use interp_core::{Judge, Leaves};
 use base_library::{NoMemory, Sequence};
+use interp_core::{Judge, Leaves};
 use std::alloc::Global;
 
 /// The values of the inputs and cells at each position.

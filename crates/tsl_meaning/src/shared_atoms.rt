@@ -13,9 +13,9 @@ use crate::atom_truths::atom_plane;
 use crate::columns::RunValues;
 use crate::marks::mark_of;
 use crate::run::LoopRun;
+use base_library::NoMemory;
 use indexmap::IndexMap;
 use interp_core::Judge;
-use base_library::NoMemory;
 use std::alloc::Global;
 use tsl_terms::{AtomRef, Formula, atoms, same_probe, same_term};
 

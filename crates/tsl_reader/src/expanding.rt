@@ -15,8 +15,8 @@ ghost use Rattle.tsl_reader.specs.Expanding.{nodes_of_formulas, nodes_of_section
 
 use crate::text_names::{TextNames, check_names, check_uses, order_of};
 use crate::{MOST_NODES, SpecError};
-use definition_expansion::{NODES_STOP, ReadDefinition, Size, expansion, expansion_size, sizes};
 use base_library::NoMemory;
+use definition_expansion::{NODES_STOP, ReadDefinition, Size, expansion, expansion_size, sizes};
 use spec_syntax::{ReadFormula, ReadSection};
 use std::alloc::Global;
 use tsl_terms::Names;

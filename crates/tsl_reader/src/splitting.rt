@@ -9,8 +9,8 @@ ghost use Rattle.definition_expansion.specs.DefinitionView.{definition_of};
 ghost use Rattle.name_resolution.specs.Heads.{definitions_in, head_size, heads_size};
 ghost use Rattle.tsl_reader.specs.ReadText.{names_once, with_names_once};
 
-use definition_expansion::ReadDefinition;
 use base_library::NoMemory;
+use definition_expansion::ReadDefinition;
 use spec_syntax::{ReadDeclaration, ReadEquation, ReadSection};
 use std::alloc::Global;
 use tsl_terms::{NameKind, Names};

@@ -15,12 +15,12 @@ ghost use Rattle.tsl_reader.specs.Spells.{is_free, name_tokens, HasCause};
 ghost use Rattle.tsl_reader.specs.ReadText.{AreTextNames, AreTextParts, AreInOrder, AreWell};
 
 use crate::SpecError;
+use base_library::NoMemory;
+use definition_expansion::{OrderFault, ReadDefinition, Size, order};
 use name_resolution::{
     ReadOccurrence, first_arity_fault, first_deep_use, first_head_fault, first_kind_fault,
     head_place, plain_names,
 };
-use definition_expansion::{OrderFault, ReadDefinition, Size, order};
-use base_library::NoMemory;
 use spec_syntax::{Terminal, terminal_at};
 use std::alloc::Global;
 use tsl_terms::Names;

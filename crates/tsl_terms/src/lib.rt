@@ -8,8 +8,6 @@
 //!
 //! - `Names` keeps names by first appearance: each call gives its part of the list of names. `equality_of` gives the
 //!   number of the predicate `eq` with two arguments.
-//! - `first_uses` gives the names of a list of uses, each as it is used first, and `first_clash` the first
-//!   use that is not like the first use of its name.
 //! - `copy_term`, `copy_probe`, `copy_formula` and `copy_window` give a value of the same tree, and
 //!   `same_term` and `same_probe` say whether two trees are equal; that the test of trees is equality is
 //!   a law.
@@ -26,11 +24,7 @@
 //! - `node_count` counts nodes, and stops at the largest number; `whole_node_count` counts those of the
 //!   whole formula and makes no formula.
 //!
-//! Laws: free terms of one class are equal where no pair is listed, and a window without equalities is
-//! congruent where its sides unfold to the same; a congruent window stays so where more is listed; the atoms
-//! of a whole formula are those of the four lists, and it fits where they do; those of a formula under windows
-//! are those of the windows and its own; no signal is twice among inputs, cells and outputs, what is read is an
-//! input or a cell, and what is updated a cell or an output.
+//! `laws` has what follows of these definitions alone.
 //!
 //! The only error is out of memory. Lists of members are walked, built, copied and dropped by loops, so
 //! they may be long; how deep formulas and terms nest is up to what makes them, and calls go as deep.

@@ -3,8 +3,8 @@
 ghost use Rattle.std.specs.Prelude.{◌≡◌, ◌+◌, ◌<◌, ◌^◌, ◌∷◌, ◌++◌, [], None, length, slice_get, IfOk, OnOk, OnErr, IsSomeAnd};
 ghost use Rattle.tsl_terms.specs.Name.{number_of, same_kind, AreDistinct};
 
-use indexmap::IndexMap;
 use base_library::NoMemory;
+use indexmap::IndexMap;
 use std::alloc::Global;
 use std::marker::Model;
 

@@ -14,14 +14,14 @@ ghost use Rattle.tsl_tool.specs.Tasks.{AreFewBytes, ReadNothing, most_bytes};
 ghost use Rattle.tsl_tool.specs.internal.TaskRanges.{IsTaskInRange};
 
 use crate::tasks::{most_bytes, search_sizes};
+use base_library::NoMemory;
+use checking_commands::{check, recheck, run};
+use command_faults::fault_reply;
 use command_words::{Task, WordsError, task_of};
 use exchange_commands::{accepts, automaton, circuit};
-use checking_commands::{check, recheck, run};
-use synthesis_commands::{generate, prove, synth};
-use base_library::NoMemory;
 use std::alloc::Global;
+use synthesis_commands::{generate, prove, synth};
 use tool_io::{Reply, Status, tell};
-use command_faults::fault_reply;
 use tsl_io::{ReadError, Sink, Source, read_all};
 use tsl_report::{Fault, LimitName};
 

@@ -10,9 +10,9 @@ ghost use Rattle.underapprox.specs.LetterForm.{letter_form, not_letter_form, let
 ghost use Rattle.underapprox.specs.LetterLasso.{letter_lasso};
 
 use crate::making::{all_of, any_of, bit, both, either, next, not_bit, release, until};
+use base_library::NoMemory;
 use letter_space::Space;
 use ltl_formula::Ltl;
-use base_library::NoMemory;
 use std::alloc::Global;
 use tsl_terms::{Formula, FormulaList};
 

@@ -4,8 +4,8 @@ ghost use Rattle.std.specs.Prelude.{◌≡◌, ◌∷◌, [], map, IfOk};
 ghost use Rattle.ltl_formula.specs.LtlTree.{ltl_tree, ltl_trees, ltl_formulas_of, next, until, release, conjunction, disjunction};
 ghost use Rattle.underapprox.specs.LetterForm.{atom_form, not_atom_form, both_of, either_of};
 
-use ltl_formula::{Ltl, LtlList};
 use base_library::NoMemory;
+use ltl_formula::{Ltl, LtlList};
 use std::alloc::Global;
 
 /// The form of an atom with this bit, if it has one.

@@ -18,9 +18,9 @@ ghost use Rattle.tsl_terms.specs.Name.{is_name};
 ghost use Rattle.tsl_meaning.specs.Interpretation.{IsInterpretation, IsEqualityOf};
 ghost use Rattle.word_interp.specs.Words.{SpellsWords, HasWordsCause, IsRefusedAsWords};
 
+use base_library::NoMemory;
 use entries::words_from;
 use entry_names::EntryFault;
-use base_library::NoMemory;
 use std::alloc::{AllocFailed, Global};
 use table_syntax::{TextFault, words_of};
 use thiserror::Error;

@@ -6,8 +6,8 @@ ghost use Rattle.word_interp.specs.Operations.{table_given, value_given};
 ghost use Rattle.word_interp.specs.internal.Applied.{given_at};
 
 use crate::operations::{entry_in, given_at, value_in};
-use interp_core::{Algebra, Judge};
 use base_library::{NoMemory, Sequence};
+use interp_core::{Algebra, Judge};
 use std::alloc::Global;
 use std::marker::Model;
 use table_syntax::Given;
