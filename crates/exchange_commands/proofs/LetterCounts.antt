@@ -7,7 +7,7 @@ use Rattle.std.proofs.lemmas.List.{length-append, length-map}
 use Rattle.tsl_text.specs.Lines.{is_ended}
 use Rattle.tsl_text.specs.Written.{text_of_lines}
 use Rattle.line_formats.specs.Machine.{with_last_feed}
-use Rattle.lasso_text.specs.LetterText.{LoopTree, IsLoop, lasso_text, back_text, loop_lines, loop_text, rise}
+use Rattle.lasso_text.specs.LetterText.{LoopTree, IsLoop, letter_text, back_text, loop_lines, loop_text, rise}
 
 lines_within : (ls : List (List ℕ)) → length ls ≤ length (text_of_lines ls)
 lines_within [] = omega arith
@@ -27,7 +27,7 @@ feed_within text = by (is_ended text)
 pub letters_within : (text : List ℕ) (loop : LoopTree) → with_last_feed text ≡ loop_text loop → length loop.letters ≤ length text
 letters_within text loop is =
     let lines : length (loop_lines loop) ≡ length loop.letters + 1 =
-    length-append (map lasso_text loop.letters) (back_text loop.back ∷ []) ∙ ap (λ n. n + 1) (length-map loop.letters lasso_text) in
+    length-append (map letter_text loop.letters) (back_text loop.back ∷ []) ∙ ap (λ n. n + 1) (length-map loop.letters letter_text) in
     let within = lines_within (loop_lines loop) in
     let same : length (with_last_feed text) ≡ length (loop_text loop) = ap length is in
     let feed = feed_within text in

@@ -13,7 +13,7 @@ ghost use Rattle.flow_program.specs.Reading.{IsReading, HasProgramCause};
 
 use crate::naming::names_after;
 use crate::numbering::numbered_program;
-use crate::rules::{limit_fault, line_fault, name_resolution, use_fault};
+use crate::rules::{declared_names, limit_fault, line_fault, use_fault};
 use crate::uses::all_uses;
 use base_library::NoMemory;
 use program_listing::{ListingError, Name, ProgramSyntax, read_listing};
@@ -132,8 +132,8 @@ fn declared_signals(
 {
     let inputs_and_cells = joined(alloc, &listing.inputs, &listing.cells)?;
     let controlled = joined(alloc, &listing.cells, &listing.outputs)?;
-    let cells = name_resolution(alloc, text, &listing.cells)?;
-    let readable = name_resolution(alloc, text, &inputs_and_cells)?;
+    let cells = declared_names(alloc, text, &listing.cells)?;
+    let readable = declared_names(alloc, text, &inputs_and_cells)?;
     Ok(Signals {
         cells,
         readable,

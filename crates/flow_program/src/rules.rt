@@ -45,7 +45,7 @@ pub(crate) fn first_window(listing: &ProgramSyntax) -> u32
 }
 
 /// The names that lines declare, which are distinct.
-pub(crate) fn name_resolution(
+pub(crate) fn declared_names(
     alloc: Global,
     text: &[u8],
     declared: &[Name],

@@ -11,7 +11,7 @@ use Rattle.tsl_text.specs.Written.{is_line, text_of_lines}
 use Rattle.tsl_text.proofs.Fronts.{one_run}
 use Rattle.line_formats.specs.Machine.{IsText, IsFirstWrong}
 use Rattle.line_formats.proofs.MachineLaws.{lines_begin, all_front, text_append}
-use Rattle.lasso_text.specs.LetterText.{lasso_text, back_text, LoopTree, IsLoop, loop_lines, loop_text, rise, State, fresh, step, whole}
+use Rattle.lasso_text.specs.LetterText.{letter_text, back_text, LoopTree, IsLoop, loop_lines, loop_text, rise, State, fresh, step, whole}
 use Rattle.lasso_text.specs.FirstWrongLine.{said_of, IsFirstWrongLine}
 use Rattle.lasso_text.proofs.LoopLaws.{of_loop, is_short_text}
 
@@ -65,13 +65,13 @@ read_on bits loop ms rest few some short lines is e = by (cases_lt loop.back (10
       let up : list_all (rise bits 0) front ≡ true = all_front (rise bits 0) front behind (ap (list_all (rise bits 0)) whole_is ∙ is.0) in
       let t = is_short_text bits cut few (omega arith) (up, omega (arith, size, some)) in
       let last = back_text loop.back ∷ [] in
-      let parts : loop_lines loop ≡ map lasso_text front ++ (map lasso_text behind ++ last) =
-      ap (λ xs. map lasso_text xs ++ last) (sym whole_is) ∙ ap (λ xs. xs ++ last) (map-append lasso_text front behind)
-      ∙ append_assoc (map lasso_text front) (map lasso_text behind) last in
-      let same : map lasso_text front ≡ ms =
-      same_lines (map lasso_text front) ms (text_of_lines (map lasso_text behind ++ last)) rest
-      (all_front is_line (map lasso_text front) (back_text 0 ∷ []) t.lines) lines (length-map front lasso_text ∙ size)
-      (sym (text_append (map lasso_text front) (map lasso_text behind ++ last)) ∙ ap text_of_lines (sym parts) ∙ e) in
+      let parts : loop_lines loop ≡ map letter_text front ++ (map letter_text behind ++ last) =
+      ap (λ xs. map letter_text xs ++ last) (sym whole_is) ∙ ap (λ xs. xs ++ last) (map-append letter_text front behind)
+      ∙ append_assoc (map letter_text front) (map letter_text behind) last in
+      let same : map letter_text front ≡ ms =
+      same_lines (map letter_text front) ms (text_of_lines (map letter_text behind ++ last)) rest
+      (all_front is_line (map letter_text front) (back_text 0 ∷ []) t.lines) lines (length-map front letter_text ∙ size)
+      (sym (text_append (map letter_text front) (map letter_text behind ++ last)) ∙ ap text_of_lines (sym parts) ∙ e) in
       (back_text 0 ∷ [], said_of bits cut, subst (λ ls. IsText step whole (fresh bits) (ls ++ back_text 0 ∷ []) (said_of bits cut)) same t)
 
 -- ---- the first wrong line
@@ -103,7 +103,7 @@ first_of_loops bits text line few short w =
           (subst (λ ls. IsText step whole (fresh bits) ls found.1) (append_assoc w.before (next ∷ []) found.0) found.2);
       none = λ loop is e.
           let size : length (loop_lines loop) ≡ length loop.letters + 1 =
-          length-append (map lasso_text loop.letters) (back_text loop.back ∷ []) ∙ ap (λ n. n + 1) (length-map loop.letters lasso_text) in
+          length-append (map letter_text loop.letters) (back_text loop.back ∷ []) ∙ ap (λ n. n + 1) (length-map loop.letters letter_text) in
           let within = lines_within (loop_lines loop) in
           let same : length text ≡ length (loop_text loop) = ap length e in
           let below = is.1 in

@@ -14,7 +14,7 @@ use Rattle.line_formats.specs.Machine.{read_from, steps, with_last_feed, IsText,
 use Rattle.line_formats.proofs.FormatLaws.{and_then_some, line_read, line_written, print_is_line}
 use Rattle.line_formats.proofs.MachineLaws.{steps_append, read_is_text, text_is_read, fault_is_first, says_written, holds_after}
 use Rattle.lasso_text.specs.LetterText.{Numbers, leaves, spaced, letter_line, back_line, line, line_value, as_members, true_numbers}
-use Rattle.lasso_text.specs.LetterText.{lasso_text, back_text, LoopTree, IsLoop, loop_lines, loop_text, rise, State, fresh, when, next}
+use Rattle.lasso_text.specs.LetterText.{letter_text, back_text, LoopTree, IsLoop, loop_lines, loop_text, rise, State, fresh, when, next}
 use Rattle.lasso_text.specs.LetterText.{step, step_from, whole}
 use Rattle.lasso_text.specs.FirstWrongLine.{said_of}
 use Rattle.lasso_text.specs.LoopView.{letter_view, reader_state}
@@ -37,7 +37,7 @@ when_true b s h = ap (λ t. when t s) h
 
 -- what a line that may stand there is, and what it adds
 data Added (s t : State) (bytes : List ℕ) : Type 0 where
-  letter : (ns : List ℕ) → s.back ≡ None → bytes ≡ lasso_text ns → rise s.bits 0 ns ≡ true →
+  letter : (ns : List ℕ) → s.back ≡ None → bytes ≡ letter_text ns → rise s.bits 0 ns ≡ true →
       record s { letters = s.letters ++ ns ∷ [] } ≡ t → Added s t bytes
   last : (back : ℕ) → s.back ≡ None → bytes ≡ back_text back → back < length s.letters → record s { back = Some back } ≡ t →
       Added s t bytes
@@ -69,7 +69,7 @@ back_lines None = []
 back_lines (Some back) = back_text back ∷ []
 
 abbrev written : State → List (List ℕ)
-written s = map lasso_text s.letters ++ back_lines s.back
+written s = map letter_text s.letters ++ back_lines s.back
 
 abbrev IsBelow : Option ℕ → ℕ → Type 0
 IsBelow None n = Unit {0}
@@ -95,16 +95,16 @@ module _ (bits : ℕ) where
     by : Added s t l → written t ≡ written s ++ l ∷ []
     by (letter ns none is up same) =
         ap written (sym same)
-        ∙ (λ i. map-append lasso_text s.letters (ns ∷ []) i ++ back_lines (none i))
-        ∙ append-nil (map lasso_text s.letters ++ lasso_text ns ∷ [])
-        ∙ (λ i. map lasso_text s.letters ++ sym is i ∷ [])
+        ∙ (λ i. map-append letter_text s.letters (ns ∷ []) i ++ back_lines (none i))
+        ∙ append-nil (map letter_text s.letters ++ letter_text ns ∷ [])
+        ∙ (λ i. map letter_text s.letters ++ sym is i ∷ [])
         ∙ ap (λ zs. zs ++ l ∷ [])
-        (sym (append-nil (map lasso_text s.letters)) ∙ ap (λ o. map lasso_text s.letters ++ back_lines o) (sym none))
+        (sym (append-nil (map letter_text s.letters)) ∙ ap (λ o. map letter_text s.letters ++ back_lines o) (sym none))
     by (last back none is below same) =
         ap written (sym same)
-        ∙ (λ i. map lasso_text s.letters ++ sym is i ∷ [])
+        ∙ (λ i. map letter_text s.letters ++ sym is i ∷ [])
         ∙ ap (λ zs. zs ++ l ∷ [])
-        (sym (append-nil (map lasso_text s.letters)) ∙ ap (λ o. map lasso_text s.letters ++ back_lines o) (sym none))
+        (sym (append-nil (map letter_text s.letters)) ∙ ap (λ o. map letter_text s.letters ++ back_lines o) (sym none))
 
 -- ---- what is read
 
@@ -122,7 +122,7 @@ of_loop bits ls t is =
     by (Some back) e held all done = (
       record { letters = t.letters; back = back },
       (held.1, subst (λ o. IsBelow o (length t.letters)) e held.2),
-      sym all ∙ ap (λ o. map lasso_text t.letters ++ back_lines o) e,
+      sym all ∙ ap (λ o. map letter_text t.letters ++ back_lines o) e,
       λ i. record { bits = held.0 i; letters = t.letters; back = e i },
     )
 
@@ -156,9 +156,9 @@ loop_read bits text first reader is h letters e =
 -- ---- what is written
 
 letter_steps : (s : State) (ns : List ℕ) → s.back ≡ None → list_all (fits Numbers leaves spaced) (as_members ns) ≡ true →
-    rise s.bits 0 ns ≡ true → step s (lasso_text ns) ≡ Some (record s { letters = s.letters ++ ns ∷ [] })
+    rise s.bits 0 ns ≡ true → step s (letter_text ns) ≡ Some (record s { letters = s.letters ++ ns ∷ [] })
 letter_steps s ns none good up =
-    ap (λ o. step_from o s (lasso_text ns)) none
+    ap (λ o. step_from o s (letter_text ns)) none
     ∙ ap (option_and_then (next s))
     (line_read Numbers leaves law line refl (inl (as_members ns, tt))
     (and_from (list_all (fits Numbers leaves spaced) (as_members ns)) true good refl))
@@ -184,18 +184,18 @@ rise_fits bits least few (n ∷ ns) h =
     (and_from (ltb n (10 ^ 18)) true (lt-ltb n (10 ^ 18) (omega (arith, below, few))) refl) (rise_fits bits (suc n) few ns parts.1)
 
 letters_step : (bits : ℕ) → bits < 2 ^ 32 → (so_far letters : List (List ℕ)) → list_all (rise bits 0) letters ≡ true →
-    (steps step (record { bits = bits; letters = so_far; back = None }) (map lasso_text letters)
+    (steps step (record { bits = bits; letters = so_far; back = None }) (map letter_text letters)
     ≡ Some (record { bits = bits; letters = so_far ++ letters; back = None }))
-    × (list_all is_line (map lasso_text letters) ≡ true)
+    × (list_all is_line (map letter_text letters) ≡ true)
 letters_step bits few so_far [] h = (ap (λ xs. Some (record { bits = bits; letters = xs; back = None })) (sym (append-nil so_far)), refl)
 letters_step bits few so_far (ns ∷ letters) h =
     let parts = and_parts (rise bits 0 ns) (list_all (rise bits 0) letters) h in
     let good = rise_fits bits 0 few ns parts.0 in
     let rest = letters_step bits few (so_far ++ ns ∷ []) letters parts.1 in (
-      ap (option_and_then (λ t. steps step t (map lasso_text letters)))
+      ap (option_and_then (λ t. steps step t (map letter_text letters)))
           (letter_steps (record { bits = bits; letters = so_far; back = None }) ns refl good parts.0)
           ∙ rest.0 ∙ ap (λ xs. Some (record { bits = bits; letters = xs; back = None })) (append_assoc so_far (ns ∷ []) letters),
-      and_from (is_line (lasso_text ns)) (list_all is_line (map lasso_text letters))
+      and_from (is_line (letter_text ns)) (list_all is_line (map letter_text letters))
           (print_is_line Numbers leaves law letter_line refl (as_members ns, tt)
           (and_from (list_all (fits Numbers leaves spaced) (as_members ns)) true good refl))
           rest.1,
@@ -211,9 +211,9 @@ is_short_text bits loop few short is =
     let steps_all = letters_step bits few [] loop.letters is.0 in
     let going : State = record { bits = bits; letters = loop.letters; back = None } in
     record {
-      lines = list_all_joined is_line (map lasso_text loop.letters) (back_text loop.back ∷ []) steps_all.1
+      lines = list_all_joined is_line (map letter_text loop.letters) (back_text loop.back ∷ []) steps_all.1
           (and_from (is_line (back_text loop.back)) true (back_is_line loop.back short) refl);
-      says = steps_append step whole (fresh bits) going (map lasso_text loop.letters) (back_text loop.back ∷ []) steps_all.0
+      says = steps_append step whole (fresh bits) going (map letter_text loop.letters) (back_text loop.back ∷ []) steps_all.0
           ∙ ap (option_and_then (λ t. Some t)) (back_steps going loop.back refl short is.1);
       done = refl;
     }
@@ -269,7 +269,7 @@ ends bits s h = by s.letters s.back refl refl where
   by letters (Some b) e f = ([], s, record { lines = refl; says = refl; done = ap is_some f })
   by [] None e f =
       let some : 0 < length (s.letters ++ [] ∷ []) = subst (λ xs. 0 < length (xs ++ [] ∷ [])) (sym e) (omega arith) in (
-        lasso_text [] ∷ back_text 0 ∷ [],
+        letter_text [] ∷ back_text 0 ∷ [],
         record s { letters = s.letters ++ [] ∷ []; back = Some 0 },
         record {
           lines = back_alone;

@@ -59,15 +59,15 @@ IsLoop bits loop = IsTrue (list_all (rise bits 0) loop.letters) × (loop.back < 
 abbrev pub as_members : List ℕ → List (ℕ × Unit {0})
 as_members ns = map (λ n. (n, tt)) ns
 
-abbrev pub lasso_text : List ℕ → List ℕ
-lasso_text ns = line_text letter_line (as_members ns, tt)
+abbrev pub letter_text : List ℕ → List ℕ
+letter_text ns = line_text letter_line (as_members ns, tt)
 
 abbrev pub back_text : ℕ → List ℕ
 back_text back = line_text back_line (back, tt)
 
 -- the lines of a loop
 abbrev pub loop_lines : LoopTree → List (List ℕ)
-loop_lines loop = map lasso_text loop.letters ++ back_text loop.back ∷ []
+loop_lines loop = map letter_text loop.letters ++ back_text loop.back ∷ []
 
 abbrev pub loop_text : LoopTree → List ℕ
 loop_text loop = text_of_lines (loop_lines loop)

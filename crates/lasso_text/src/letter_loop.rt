@@ -1,7 +1,7 @@
 //! Loops of letters, and how they are written.
 
 ghost use Rattle.std.specs.Prelude.{◌≡◌, ◌++◌, ◌∷◌, [], OnOk};
-ghost use Rattle.lasso_text.specs.LetterText.{lasso_text, back_text, loop_text};
+ghost use Rattle.lasso_text.specs.LetterText.{letter_text, back_text, loop_text};
 ghost use Rattle.lasso_text.specs.LoopView.{letter_view, loop_tree};
 
 use base_library::{NoMemory, Sequence};
@@ -36,7 +36,7 @@ pub fn write_letters(out: &mut Vec<u8>, letters: &LetterLoop) -> Result<(), NoMe
 /// Appends the line of a letter.
 fn put_letter(out: &mut Vec<u8>, letter: &Letter) -> Result<(), NoMemory>
     ensures { OnOk result (out.new.items
-        ≡ out.old.items ++ (lasso_text (letter_view letter.now) ++ 10 ∷ [])) }
+        ≡ out.old.items ++ (letter_text (letter_view letter.now) ++ 10 ∷ [])) }
 {
     put_bytes(out, b"letter")?;
     for number in letter.propositions.as_slice() {

@@ -1,7 +1,7 @@
 use Rattle.base_library.proofs.Passes.{passes_within}
 use Rattle.program_listing.specs.internal.NamesStand.{name_stands}
 use Rattle.flow_program.proofs.RuleLemmas.{declared_absent}
-use Rattle.flow_program.proofs.rules.name_resolution.Goals as goal
+use Rattle.flow_program.proofs.rules.declared_names.Goals as goal
 
 pub name_bytes-requires : goal.name_bytes-requires
 name_bytes-requires c =
