@@ -15,25 +15,8 @@ use Rattle.exchange_commands.specs.Automaton.{IsWrittenAutomaton}
 use Rattle.exchange_commands.specs.Accepts.{OfAcceptsInput, AcceptsInputLoop, RejectsInputLoop}
 use Rattle.tsl_tool.specs.Tasks.{search_sizes}
 
--- What a task promises of the bytes and of the text that is written, by the status.
---
--- Where `synth` is done, the text spells a program, which realizes the specification that the bytes spell, and its windows are those
--- of rounds; where it answers no, the text tells rounds under whose windows no controller of the size that was asked for has an
--- annotation, and why no further round is made, and with the full bound each controller of that size fails on some loop of letters;
--- where the budget is spent, it tells rounds and a trace of the question after them.
--- Where `check` is done, the bytes spell a specification and a program that realizes it, whose verdict at the bound is yes; where it
--- answers no, the text is that of a verdict that refuses the program. Where `run` is done, the text is that of the closed run of the program, interpretation and inputs that
--- the bytes spell, and the formula of each window and that of the specification hold in it; where it answers no, one of them fails,
--- or the program has other signals than the specification. Where `prove` is done, the text spells a refutation that `recheck`
--- verifies, and no controller of the size has an annotation; where it answers no, one has; where the budget is spent, the text
--- tells a trace of that question. Where `recheck` is done, no assignment meets all clauses of the formula that the bytes spell; where it answers
--- no, they spell a formula and a log that is refused. Where `gen` is done, a program realizes the specification that the text of the
--- number spells, and its controller has as many states as the number, and an annotation within it; where it answers no, there is no
--- such controller; where the budget is spent, the text tells a trace of the question. Where `circuit` is done, the bytes spell a
--- specification and a program that is accepted under it at the bound, and the text is that of a circuit of the program's controller;
--- where it answers no, it is as for `check`. Where `automaton` is done, the text is that of the automaton of the negation of the whole
--- formula. Where `accepts` is done, the automaton that the bytes spell accepts the loop of letters that they spell; where it answers
--- no, it does not.
+-- What a task promises of the bytes and of the text that is written, by the status. docs/PROVED.md says it in words, a row for each
+-- command, and each definition that is used here says its part.
 abbrev pub Promise : Task → Status → List ℕ → List ℕ → Type 0
 Promise (Synth sizes) Done bytes text = OfSpec bytes (λ spec. IsWritten (search_sizes sizes) spec text)
 Promise (Synth sizes) No bytes text = OfSpec bytes (λ spec. TellsNone (search_sizes sizes) spec text)
