@@ -1,0 +1,5 @@
+pub mod JudgedProgramsMeet
+pub mod JudgedProgramsRealize
+pub mod SpecSignals
+pub mod UsableSignals
+pub mod WritablePrograms

@@ -1,0 +1,3 @@
+pub mod MergedTruths
+pub mod PartedMembers
+pub mod SameParts

@@ -1,0 +1,14 @@
+use Rattle.std.proofs.Common.{◌≡◌, ◌∙◌, length, sym, arith}
+use Rattle.std.specs.Vec.{vec_len}
+use Rattle.std.proofs.lemmas.Bool.{eqb-true}
+use Rattle.std.proofs.lemmas.List.{nil_from_length}
+use Rattle.ltl_formula.specs.LtlTree.{ltl_tree}
+use Rattle.ltl_rewriting.proofs.PartedMembers.{any_alone}
+use Rattle.ltl_rewriting.proofs.parting.joined_any.Goals as goal
+
+pub returns-then-is_empty : goal.returns-then-is_empty
+returns-then-is_empty c loop i =
+    let count = eqb-true (vec_len c.args.awaited) 0 (sym c.is_empty.ensures ∙ c.if-is_empty.true) in
+    let fits = c.args.awaited.ok in
+    let none : length c.args.awaited.items ≡ 0 = omega (arith, count, fits) in
+    any_alone loop c.args.awaited.items c.args.others.items (ltl_tree c.in_ok-made.made) i (nil_from_length c.args.awaited.items none) c.in_ok-made.ensures
